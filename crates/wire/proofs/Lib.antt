@@ -1,0 +1,9 @@
+pub mod Sums
+pub mod Ranges
+pub mod Numbers
+pub mod Verdicts
+pub mod Fields
+pub mod Seals
+pub mod Filled
+pub mod Refilled
+pub mod Damage
