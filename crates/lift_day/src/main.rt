@@ -1,5 +1,11 @@
-// A booking made in the hall of a lift reaches the gate as a block: it is filled, carried, read back
-// and labelled, and then every kind of damage to it is shown with its answer.
+// A booking made in the hall of a lift reaches the gate as a block: it is filled, carried, read back,
+// labelled and posted to the cabin book, where a cabin is assigned and ridden. Then every kind of
+// damage to the block is shown with its answer.
+use books::Book;
+use books::CabinBook;
+use books::CabinReply;
+use books::Slot;
+use books::cabin::CabinBookBook;
 use std::io;
 use std::str::from_utf8;
 use wire::BLOCK;
@@ -118,6 +124,94 @@ fn carry(rt: &impl Print, block: &mut [u8; BLOCK]) -> io::Result<()> {
     tell_label(rt, "label with no note", &unnoted, NAMES)
 }
 
+fn reply_word(reply: CabinReply) -> &'static str {
+    match reply {
+        CabinReply::Done => "done",
+        CabinReply::Unreadable => "unreadable",
+        CabinReply::OtherState => "slot in another state",
+        CabinReply::OtherParty => "other party",
+        CabinReply::OtherCabin => "cabin not home, or another one",
+        CabinReply::TooSmall => "cabin too small",
+    }
+}
+
+// Carries an order out on the book, and tells the reply.
+fn tell_posting(
+    rt: &impl Print,
+    book: &mut CabinBook,
+    what: &str,
+    order: &[u8; 8],
+) -> io::Result<()> {
+    let reply = book.post(order);
+    let number = reply as u8;
+    let word = reply_word(reply);
+    println!(rt, "{what}: reply {number}, {word}")
+}
+
+// What the book holds of the booked slot, and of its cabin.
+fn tell_slot(rt: &impl Print, book: &CabinBook) -> io::Result<()> {
+    match book.slot(3, 5) {
+        Some(Slot::Free) => println!(rt, "  day 3, departure 5 is free")?,
+        Some(Slot::Booked { party, seats }) => {
+            println!(
+                rt,
+                "  day 3, departure 5 is booked for party {party}, {seats} seats"
+            )?
+        }
+        Some(
+            Slot::Assigned {
+                party,
+                seats,
+                cabin,
+            },
+        ) => {
+            println!(
+                rt,
+                "  day 3, departure 5 is assigned to party {party}, {seats} seats, cabin {cabin}"
+            )?
+        }
+        Some(Slot::Ridden) => println!(rt, "  day 3, departure 5 is ridden")?,
+        None => println!(rt, "  there is no such slot")?,
+    }
+    match book.is_home(2) {
+        Some(true) => println!(rt, "  cabin 2 is home"),
+        Some(false) => println!(rt, "  cabin 2 is out"),
+        None => println!(rt, "  there is no cabin 2"),
+    }
+}
+
+// The booking that the block carried, an assignment and a ride, on the gate's copy of the book.
+fn ride(rt: &impl Print, block: &[u8]) -> io::Result<()> {
+    let order = match wire::read(block) {
+        Ok(reading) => reading.message.order,
+        Err(_) => [0; 8],
+    };
+    let mut book = CabinBook::new();
+    tell_posting(rt, &mut book, "posting the booking", &order)?;
+    tell_slot(rt, &book)?;
+    tell_posting(rt, &mut book, "posting it again", &order)?;
+    tell_posting(
+        rt,
+        &mut book,
+        "assigning cabin 2",
+        &[3, 3, 5, 2, 0, 0, 0, 0],
+    )?;
+    tell_slot(rt, &book)?;
+    tell_posting(
+        rt,
+        &mut book,
+        "riding in cabin 3",
+        &[4, 3, 5, 3, 0, 0, 0, 0],
+    )?;
+    tell_posting(
+        rt,
+        &mut book,
+        "riding in cabin 2",
+        &[4, 3, 5, 2, 0, 0, 0, 0],
+    )?;
+    tell_slot(rt, &book)
+}
+
 // The block with its check made to fit again, as a sender with a fault of its own would make it.
 fn resealed(mut block: [u8; BLOCK]) -> [u8; BLOCK] {
     let [first, second, third, fourth] = check::sum(&block).to_le_bytes();
@@ -167,6 +261,7 @@ fn refused_fillings(rt: &impl Print, block: &mut [u8; BLOCK]) -> io::Result<()> 
 fn main(rt: LibcRuntime) -> io::Result<()> {
     let mut block = [0u8; BLOCK];
     carry(&rt, &mut block)?;
+    ride(&rt, &block)?;
     damage(&rt, &block)?;
     refused_fillings(&rt, &mut block)?;
     tell_reading(&rt, "the block itself", &block)

@@ -1,0 +1,3 @@
+pub mod Books
+pub mod Till
+pub mod Cabin
