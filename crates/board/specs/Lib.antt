@@ -1,0 +1,4 @@
+pub mod Sets
+pub mod Ballots
+pub mod Boards
+pub mod Rules
