@@ -51,7 +51,7 @@ slot-told book d p =
     cond (leb 1 d && (leb d 14 && (leb 1 p && leb p 32))) (Some (slot-at book d p)) None
 
 abbrev pub home-told : CabinBook → ℕ → Option Bool
-home-told book c = cond (leb 1 c && leb c 24) (Some (at-home book c)) None
+home-told book c = cond (leb 1 c && leb c (length (book .home))) (Some (at-home book c)) None
 
 -- at the start all slots are free and all cabins home; cabins 1 to 12 have 8 seats, 13 to 20 have 16, 21 to 24 have 24
 abbrev pub at-start : CabinBook
@@ -85,9 +85,13 @@ named-well book order =
     cond (eqb (code order) 1) (books-well book order)
     (cond (eqb (code order) 2) (cancels-well book order) (names-cabin-well book order))
 
+-- the highest order code
+abbrev pub cabin-top : ℕ
+cabin-top = 4
+
 abbrev pub cabin-readable : CabinBook → List ℕ → Bool
 cabin-readable book order =
-    leb 1 (code order) && (leb (code order) 4 && (leb 1 (day order) && (leb (day order) 14
+    leb 1 (code order) && (leb (code order) cabin-top && (leb 1 (day order) && (leb (day order) 14
     && (leb 1 (departure order) && (leb (departure order) 32 && (eqb (byte order 7) 0
     && named-well book order))))))
 

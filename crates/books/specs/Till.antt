@@ -15,10 +15,14 @@ code order = byte order 0
 abbrev pub amount : List ℕ → ℕ
 amount order = four-bytes order 4
 
+-- the highest order code
+abbrev pub till-top : ℕ
+till-top = 3
+
 -- codes run from 1 to 3; code 3, which reads, has amount 0, the others an amount from 1
 abbrev pub till-readable : List ℕ → Bool
 till-readable order =
-    leb 1 (code order) && (leb (code order) 3
+    leb 1 (code order) && (leb (code order) till-top
     && (eqb (byte order 1) 0 && (eqb (byte order 2) 0 && (eqb (byte order 3) 0
     && cond (eqb (code order) 3) (eqb (amount order) 0) (leb 1 (amount order))))))
 

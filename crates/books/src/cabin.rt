@@ -8,7 +8,7 @@ ghost use Rattle.wire.specs.Words.{two-bytes};
 ghost use Rattle.books.specs.declared.cabin.CabinBook.{CabinBook};
 ghost use Rattle.books.specs.declared.cabin.CabinReply.the-variants.{Done};
 ghost use Rattle.books.specs.Books.{Only-alters};
-ghost use Rattle.books.specs.Cabin.{at-start, cabin-readable, cabin-step, home-told, most, named-well, on-slot, slot-at, slot-told};
+ghost use Rattle.books.specs.Cabin.{at-start, cabin-readable, cabin-step, cabin-top, home-told, most, named-well, on-slot, slot-at, slot-told};
 use crate::book::Book;
 use crate::book::ORDER;
 
@@ -94,7 +94,7 @@ pub impl Book for CabinBook as CabinBookBook {
 
     ghost step = { cabin-step };
 
-    ghost highest = { 4 };
+    ghost highest = { cabin-top };
 
     fn highest_code() -> u8 {
         Self::TOP
@@ -142,7 +142,7 @@ impl CabinBook {
     pub fn is_home(&self, cabin: u8) -> Option<bool>
         ensures { λ r. ⌜ r ≡ home-told (now (self .entry)) cabin ⌝ }
     {
-        if cabin < 1 || cabin as usize > CABINS {
+        if cabin < 1 || cabin as usize > self.home.len() {
             return None;
         }
         Some(self.home[cabin as usize - 1])

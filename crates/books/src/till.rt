@@ -4,7 +4,7 @@ ghost use mathlib.Core.Path.{_≡_};
 ghost use Prim.Native.Nat.{ℕ};
 ghost use Rattle.wire.specs.Words.{four-bytes};
 ghost use Rattle.books.specs.declared.till.TillWord.the-variants.{Done};
-ghost use Rattle.books.specs.Till.{till-readable, till-step};
+ghost use Rattle.books.specs.Till.{till-readable, till-step, till-top};
 use crate::book::Book;
 use crate::book::ORDER;
 
@@ -59,7 +59,7 @@ pub impl Book for TillBook as TillBookBook {
 
     ghost step = { till-step };
 
-    ghost highest = { 3 };
+    ghost highest = { till-top };
 
     fn highest_code() -> u8 {
         Self::TOP

@@ -12,7 +12,7 @@ use wire::Fault;
 #[derive(Clone, Copy)]
 pub struct StationOrder(Size);
 
-// The first turn goes round: wave w starts at station ((w − 1) mod n) + 1, goes up, and puts 1 after n.
+// The turn to go first goes round: wave w starts at station ((w − 1) mod n) + 1, goes up, and puts 1 after n.
 #[derive(Clone, Copy)]
 pub struct TurnOrder(Size);
 
@@ -114,14 +114,14 @@ fn start_of(size: Size, wave: u32) -> u8
 }
 
 // How far a station of the group lies past the first of a wave, going up and putting 1 after n.
-fn turn_of(size: Size, start: u8, station: u8) -> u8
-    requires start { ⌜ start ≤ size .n ⌝ }
+fn turn_of(size: Size, first: u8, station: u8) -> u8
+    requires first { ⌜ first ≤ size .n ⌝ }
     requires station { ⌜ station ≤ size .n ⌝ }
-    ensures { λ r. ⌜ r ≡ turn (size .n) start station ⌝ }
+    ensures { λ r. ⌜ r ≡ turn (size .n) first station ⌝ }
 {
-    if station >= start {
-        station - start
+    if station >= first {
+        station - first
     } else {
-        station + size.get() - start
+        station + size.get() - first
     }
 }
