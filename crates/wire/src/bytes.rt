@@ -5,7 +5,7 @@ ghost use Prim.Native.Nat.{_+_, _<_};
 ghost use Rattle.wire.specs.Words.{all-within, byte, four-bytes, two-bytes};
 
 // The number in two bytes from a place on, the lowest byte first.
-pub fn two_bytes(bytes: &[u8], place: usize) -> u16
+pub(crate) fn two_bytes(bytes: &[u8], place: usize) -> u16
     requires { ⌜ place + 1 < length (now bytes) ⌝ }
     ensures { λ r. ⌜ r ≡ two-bytes (now (bytes .entry)) place ⌝ }
 {
@@ -13,7 +13,7 @@ pub fn two_bytes(bytes: &[u8], place: usize) -> u16
 }
 
 // The number in four bytes from a place on, the lowest byte first.
-pub fn four_bytes(bytes: &[u8], place: usize) -> u32
+pub(crate) fn four_bytes(bytes: &[u8], place: usize) -> u32
     requires { ⌜ place + 3 < length (now bytes) ⌝ }
     ensures { λ r. ⌜ r ≡ four-bytes (now (bytes .entry)) place ⌝ }
 {
@@ -26,7 +26,7 @@ pub fn four_bytes(bytes: &[u8], place: usize) -> u32
 }
 
 // The byte at a place, or 0 past the end.
-pub fn byte_or_zero(bytes: &[u8], place: usize) -> u8
+pub(crate) fn byte_or_zero(bytes: &[u8], place: usize) -> u8
     ensures { λ r. ⌜ r ≡ byte (now (bytes .entry)) place ⌝ }
 {
     match bytes.get(place) {
@@ -36,7 +36,7 @@ pub fn byte_or_zero(bytes: &[u8], place: usize) -> u8
 }
 
 // Whether every byte lies from low to high.
-pub fn bytes_within(bytes: &[u8], low: u8, high: u8) -> bool
+pub(crate) fn bytes_within(bytes: &[u8], low: u8, high: u8) -> bool
     ensures { λ r. ⌜ r ≡ all-within low high (now (bytes .entry)) ⌝ }
 {
     for byte in bytes {
@@ -51,7 +51,7 @@ pub fn bytes_within(bytes: &[u8], low: u8, high: u8) -> bool
 }
 
 // Whether every count is at most `most`.
-pub fn counts_within(counts: &[u16], most: u16) -> bool
+pub(crate) fn counts_within(counts: &[u16], most: u16) -> bool
     ensures { λ r. ⌜ r ≡ all-within 0 most (now (counts .entry)) ⌝ }
 {
     for count in counts {
