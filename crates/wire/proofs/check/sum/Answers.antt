@@ -4,7 +4,7 @@ use Rattle.std.proofs.lemmas.List.{get_or_past}
 use Rattle.wire.specs.Format.{weighted, check_sum}
 use Rattle.wire.proofs.Sums.{sum_below-none, sum_below-step, sum_below-stays, sum_below_ends}
 use Rattle.wire.proofs.check.sum.Goals as goal
-use Rattle.wire.proofs.check.sum.Goals.{then-place-lt-CHECK-AT, else-place-lt-CHECK-AT}
+use Rattle.wire.proofs.check.sum.Goals.{then-place-lt-CHECK_AT, else-place-lt-CHECK_AT}
 
 -- no term is above 508 × 255
 term_bound : (weight value : ℕ) → weight ≤ 508 → value < 256 → weight * value ≤ 129540
@@ -25,13 +25,13 @@ overflow-add-sum c =
 
 pub loop-place-preserved : goal.loop-place-preserved
 loop-place-preserved c =
-    elim c.if-place-lt-CHECK-AT.branch [
-      | then-place-lt-CHECK-AT w ↦
+    elim c.if-place-lt-CHECK_AT.branch [
+      | then-place-lt-CHECK_AT w ↦
           let fit = c.type-inv.block c.loop-place.place in
           let bound = term_bound w.weight.result w.from.result (omega arith) (omega arith) in
           let step = sum_below-step 508 c.loop-place.place c.loop-place.sum (weighted c.args.block.now) w.if-place-lt-CHECK-AT.true c.loop-place.invariant.0 in
           (cc, omega (arith, w.sum-is, bound))
-      | else-place-lt-CHECK-AT w ↦
+      | else-place-lt-CHECK_AT w ↦
           let stays = sum_below-stays 508 c.loop-place.place (weighted c.args.block.now) w.if-place-lt-CHECK-AT.false in
           (cc, omega (arith, w.sum-is))
     ]

@@ -26,13 +26,13 @@ returns-in-46 c =
 
 pub returns-in-4-to-5 : goal.returns-in-4-to-5
 returns-in-4-to-5 c =
-    ap (λ bytes. get_or bytes (c.args.place - 4) 0) c.to-le-bytes.ensures
+    ap (λ bytes. get_or bytes (c.args.place - 4) 0) c.to_le_bytes.ensures
     ∙ sym (at_number c.args.n c.args.message.now c.args.note.now (omega arith) (omega arith) (c.args.place - 4) (omega arith))
     ∙ at_place (checked_part c.args.n c.args.message.now c.args.note.now) 4 c.args.place (omega arith)
 
 pub returns-in-6-to-37 : goal.returns-in-6-to-37
 returns-in-6-to-37 c =
-    c.half-of-count.ensures
+    c.half_of_count.ensures
     ∙ sym (at_counts c.args.n c.args.message.now c.args.note.now (omega arith) (omega arith) (c.args.place - 6) (omega arith))
     ∙ at_place (checked_part c.args.n c.args.message.now c.args.note.now) 6 c.args.place (omega arith)
 

@@ -23,8 +23,8 @@ pub loop-place-preserved : goal.loop-place-preserved
 loop-place-preserved c =
     let part = checked_part c.args.n c.args.message.now c.args.note.now in
     let more = fill_by_more (byte part) c.loop-place.block c.loop-place.place 0 (omega arith) c.loop-place.invariant.0 in (
-      rw c.byte-at.ensures more,
-      drop-set-lt 508 c.loop-place.block c.loop-place.place c.byte-at.result (omega arith) ∙ c.loop-place.invariant.1,
+      rw c.byte_at.ensures more,
+      drop-set-lt 508 c.loop-place.block c.loop-place.place c.byte_at.result (omega arith) ∙ c.loop-place.invariant.1,
     )
 
 pub returns : goal.returns

@@ -15,8 +15,8 @@ pub returns : goal.returns
 returns c =
     record {
       memory =
-          ends c.args.block.now c.copy-from-slice.new.self c.requires
+          ends c.args.block.now c.copy_from_slice.new.self c.requires
           ∙ ap (λ last. take 508 c.args.block.now ++ last)
-          (c.copy-from-slice.ensures.after ∙ c.to-le-bytes-sum.ensures ∙ ap in_four c.sum.ensures);
-      small = omega (arith, c.sum.ensures, c.sum.type-inv);
+          (c.copy_from_slice.ensures.after ∙ c.to_le_bytes-sum.ensures ∙ ap in_four c.sum.ensures);
+      small = omega (arith, c.sum.ensures, c.sum.type_inv);
     }

@@ -23,8 +23,8 @@ returns c =
     let shape = c.requires.shape in
     let short = (fits-block n message note c.requires.fit).short in
     let sealed =
-    sealed_is c.lay-out.new.block c.seal.new.block (checked_part n message note) (drop 508 c.args.block.now)
-    (length_checked n message note shape.0 shape.1 short) c.lay-out.ensures c.seal.ensures.memory in
+    sealed_is c.lay_out.new.block c.seal.new.block (checked_part n message note) (drop 508 c.args.block.now)
+    (length_checked n message note shape.0 shape.1 short) c.lay_out.ensures c.seal.ensures.memory in
     record {
       memory = sealed.0;
       reads =

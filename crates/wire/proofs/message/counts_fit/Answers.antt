@@ -6,6 +6,6 @@ use Rattle.wire.proofs.message.counts_fit.Goals as goal
 pub returns : goal.returns
 returns c =
     let after = c.args.after.now in
-    c.counts-within-2.ensures
+    c.counts_within-2.ensures
     ∙ ap (all_within 0 0) (between_to_end after c.args.n 16 (omega arith))
-    ∙ ap (λ within. within && all_within 0 0 (drop c.args.n after)) c.if-not-counts-within.ensures
+    ∙ ap (λ within. within && all_within 0 0 (drop c.args.n after)) c.if-not-counts_within.ensures

@@ -9,8 +9,8 @@ use Rattle.wire.proofs.reading.counts_in.Goals as goal
 pub loop-j-preserved : goal.loop-j-preserved
 loop-j-preserved c =
     let more = fill_by_more (λ j. two_bytes c.args.block.now (6 + 2 * j)) c.loop-j.counts c.loop-j.j 0 (omega arith) c.loop-j.invariant.1 in (
-      length-set c.loop-j.counts c.loop-j.j c.two-bytes.result ∙ c.loop-j.invariant.0,
-      rw c.two-bytes.ensures more,
+      length-set c.loop-j.counts c.loop-j.j c.two_bytes.result ∙ c.loop-j.invariant.0,
+      rw c.two_bytes.ensures more,
     )
 
 pub returns : goal.returns

@@ -22,6 +22,6 @@ returns-then-not-bytes-within c = layout_unspare c.args.block.now c.if-not-bytes
 
 pub returns : goal.returns
 returns c =
-    layout_good c.args.block.now c.message-in-message.result c.message-in-message.ensures
-    c.if-block-ne-KIND.false c.if-note-length-gt-NOTE.false
-    c.if-not-is-fitting.ensures.answer c.if-not-bytes-within.ensures
+    layout_good c.args.block.now c.message_in-message.result c.message_in-message.ensures
+    c.if-block-ne-KIND.false c.if-note_length-gt-NOTE.false
+    c.if-not-is_fitting.ensures.answer c.if-not-bytes-within.ensures

@@ -26,8 +26,8 @@ returns c =
     record {
       answer =
           c.laid_out.ensures
-          ∙ sym (reading-verified c.args.block.now (sym c.in-ok-verify.ensures));
-      fills_again = again c.args.block.now c.type-inv.block;
+          ∙ sym (reading-verified c.args.block.now (sym c.in_ok-verify.ensures));
+      fills_again = again c.args.block.now c.ok.block;
       altered = altered_refused c.args.block.now;
       exchanged = exchanged_refused c.args.block.now;
     }
