@@ -1,4 +1,6 @@
 // The ballot: sets of stations, the board that a rule is shown, and what a rule is.
+#![tactic(auto)]
+
 pub mod board;
 pub mod rule;
 pub mod sets;

@@ -1,4 +1,6 @@
 // Books: what a station carries its messages out on.
+#![tactic(auto)]
+
 pub mod book;
 pub mod cabin;
 pub mod till;

@@ -1,4 +1,6 @@
 // Reads blocks from standard input and prints a line for each that is refused.
+#![tactic(auto)]
+
 ghost use Rattle.std.specs.Prelude.{◌≤◌, length, IfOk};
 
 use sheet::line_for;

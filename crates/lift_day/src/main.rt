@@ -1,6 +1,8 @@
 // A booking made in the hall of a lift reaches the gate as a block: it is filled, carried, read back,
 // labelled and posted to the cabin book, where a cabin is assigned and ridden. Then every kind of
 // damage to the block is shown with its answer.
+#![tactic(auto)]
+
 use books::{Book, CabinBook, CabinReply, Slot};
 use std::io;
 use std::str::from_utf8;

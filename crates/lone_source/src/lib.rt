@@ -1,4 +1,6 @@
 // A maker's own rule, as an example: over any rule, only the source of the lowest station.
+#![tactic(auto)]
+
 ghost use Rattle.std.specs.Prelude.{◌≡◌};
 ghost use Rattle.lone_source.specs.Lowest.{LoneSourcesAreLawful, lone_source, lowest_of};
 ghost use Rattle.lone_source.specs.Laws.{lone_sources_are_lawful};

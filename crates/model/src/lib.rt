@@ -1,4 +1,6 @@
 // What a station is: the state that it stands for, and what each of its six calls answers and leaves.
+#![tactic(auto)]
+
 pub mod entry;
 pub mod messages;
 pub mod ranking;

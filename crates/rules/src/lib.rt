@@ -1,4 +1,6 @@
 // The rules by which a wave is decided.
+#![tactic(auto)]
+
 pub mod lead_station;
 pub mod roll_call;
 pub mod threshold;

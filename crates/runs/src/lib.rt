@@ -1,4 +1,6 @@
 // The promise about runs of stations, and its proof.
+#![tactic(auto)]
+
 ghost use Rattle.runs.specs.Promise.{Promise};
 
 use books::Book;

@@ -1,4 +1,6 @@
 // What daysheet says of the blocks it is given: the lines it prints, byte by byte.
+#![tactic(auto)]
+
 ghost use Rattle.std.specs.Prelude.{◌≡◌, IfOk, string_bytes};
 ghost use Rattle.sheet.specs.Lines.{line_bytes, line_for, taking};
 

@@ -1,4 +1,6 @@
 // A station: it takes messages in, puts them into one order, and carries them out on a book.
+#![tactic(auto)]
+
 pub mod places;
 pub mod settings;
 pub mod station;

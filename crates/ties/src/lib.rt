@@ -1,4 +1,6 @@
 // Who goes first among equals: the order of the messages of one wave.
+#![tactic(auto)]
+
 pub mod orders;
 pub mod size;
 pub mod tie;

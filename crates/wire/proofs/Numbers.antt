@@ -1,7 +1,7 @@
 -- Numbers of two bytes and of four, the lowest byte first. Assumes nothing.
-use Rattle.std.proofs.Common.{◌≡◌, ℕ, zero, suc, ◌+◌, ◌*◌, ◌/◌, ◌%◌, ◌^◌, ◌<◌, [], ◌∷◌, get_or, sym, ap, ◌∙◌, arith}
+use Rattle.std.proofs.Common.{◌≡◌, ℕ, ◌+◌, ◌*◌, ◌/◌, ◌%◌, ◌^◌, ◌<◌, [], ◌∷◌, sym, ap, ◌∙◌, arith}
 use Rattle.std.proofs.lemmas.Nat.{div-add-mod', shr-shr}
-use Rattle.wire.specs.Words.{in_four, in_two}
+use Rattle.wire.specs.Words.{in_four}
 
 -- a number is told by its bytes
 

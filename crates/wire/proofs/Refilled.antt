@@ -8,7 +8,7 @@ use Rattle.wire.specs.declared.fault.Fault.TheVariants.{Length, Layout}
 use Rattle.wire.specs.Laws.{FillsAgain}
 use Rattle.wire.specs.declared.message.Message.{Message}
 use Rattle.wire.specs.Words.{byte, four_bytes, in_four, in_two, two_bytes}
-use Rattle.wire.specs.Format.{Contents, block_of, check_sum, checked_part, contents_in, counts_in, fitting, message_in, note_end, reading}
+use Rattle.wire.specs.Format.{Contents, block_of, checked_part, counts_in, fitting, message_in, note_end, reading}
 use Rattle.wire.proofs.Fields.{at_counts, at_length, at_note, at_number, at_order, at_place, length_checked}
 use Rattle.wire.proofs.Numbers.{four_again, in_two-high, in_two-low}
 use Rattle.wire.proofs.Ranges.{within_at}

@@ -1,5 +1,5 @@
 -- The 512-byte block: what its bytes say, and the block of a message. Assumes nothing.
-use Rattle.std.specs.Prelude.{ℕ, ◌+◌, ◌-◌, ◌*◌, Bool, cond, ◌&&◌, List, [], ◌∷◌, ◌++◌, map, length, replicate, Ok, Err, Result, ◌==◌, nat_le}
+use Rattle.std.specs.Prelude.{ℕ, ◌+◌, ◌-◌, ◌*◌, Bool, cond, ◌&&◌, List, ◌∷◌, ◌++◌, map, length, replicate, Ok, Err, Result, ◌==◌, nat_le}
 use Rattle.std.specs.List.{range_with_len, flat_map, between}
 use Rattle.wire.specs.declared.fault.Fault.{Fault}
 use Rattle.wire.specs.declared.fault.Fault.TheVariants.{Length, Check, Layout, Setting}

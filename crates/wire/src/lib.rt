@@ -1,4 +1,6 @@
 // What travels between stations: faults, messages, and the 512-byte block that carries one message.
+#![tactic(auto)]
+
 mod bytes;
 pub mod check;
 pub mod fault;

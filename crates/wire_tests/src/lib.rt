@@ -1,4 +1,6 @@
 // Tests of the wire crate on blocks that an independent script worked out (reference/vectors.py rust).
+#![tactic(auto)]
+
 #[cfg(test)]
 mod blocks;
 #[cfg(test)]

@@ -1,4 +1,6 @@
 // Boards worked through by hand: what a rule answers where just those are present that vote.
+#![tactic(auto)]
+
 ghost use Rattle.std.specs.Prelude.{◌≡◌, length};
 ghost use Rattle.worked_boards.specs.Asking.{asked};
 ghost use Rattle.worked_boards.specs.Cases.{NobodyIsABoard, WorkedOut, cases};

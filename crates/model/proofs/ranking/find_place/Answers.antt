@@ -6,19 +6,19 @@ pub loop-place-init : goal.loop-place-init
 loop-place-init g c =
     placed_first (g.T.TieOrder.means c.args.order.now) c.args.wave c.args.message.now c.args.messages.now
 
-pub returns-then-is-before : goal.returns-then-is-before
-returns-then-is-before g c =
+pub returns-then-is_before : goal.returns-then-is_before
+returns-then-is_before g c =
     record {
       place =
           placed_here (g.T.TieOrder.means c.args.order.now) c.args.wave c.args.message.now c.args.messages.now
-          c.loop-place.place c.loop-place.invariant _ c.loop-place-test.true c.if-is-before.ensures.answer;
+          c.loop-place.place c.loop-place.invariant _ c.loop-place-test.true c.if-is_before.ensures.answer;
       within = omega arith;
     }
 
 pub loop-place-preserved : goal.loop-place-preserved
 loop-place-preserved g c =
     placed_on (g.T.TieOrder.means c.args.order.now) c.args.wave c.args.message.now c.args.messages.now
-    c.loop-place.place c.loop-place.invariant _ c.loop-place-test.true c.if-is-before.ensures.answer
+    c.loop-place.place c.loop-place.invariant _ c.loop-place-test.true c.if-is_before.ensures.answer
 
 pub returns : goal.returns
 returns g c =

@@ -10,18 +10,18 @@ returns g c =
     let all : c.args.count - 0 ≡ c.args.count = omega arith in
     let long = length-take-le c.args.count c.args.messages.now (omega arith) in
     let front = ap (λ k. length (take k c.args.messages.now)) all in
-    let within : c.find-place-place.result ≤ c.args.count = omega (arith, c.find-place-place.ensures.within) in
+    let within : c.find_place-place.result ≤ c.args.count = omega (arith, c.find_place-place.ensures.within) in
     record {
       put =
-          turned c.args.messages.now c.args.count c.find-place-place.result c.args.message.now c.rotate-right.new.self
-          (omega arith) within c.rotate-right.ensures.after
+          turned c.args.messages.now c.args.count c.find_place-place.result c.args.message.now c.rotate_right.new.self
+          (omega arith) within c.rotate_right.ensures.after
           ∙ ap (λ k. insert (take c.args.count c.args.messages.now) k c.args.message.now)
-          (c.find-place-place.ensures.place
+          (c.find_place-place.ensures.place
           ∙ ap (λ k. place_for (g.T.TieOrder.means c.args.order.now) c.args.wave c.args.message.now (take k c.args.messages.now)) all)
           ∙ sym (put_in_is (g.T.TieOrder.means c.args.order.now) c.args.wave c.args.message.now (take c.args.count c.args.messages.now));
       places =
-          turned-long (set c.args.messages.now c.args.count c.args.message.now) c.args.count c.find-place-place.result
-          c.rotate-right.new.self (omega (arith, length-set c.args.messages.now c.args.count c.args.message.now)) within
-          c.rotate-right.ensures.len
+          turned-long (set c.args.messages.now c.args.count c.args.message.now) c.args.count c.find_place-place.result
+          c.rotate_right.new.self (omega (arith, length-set c.args.messages.now c.args.count c.args.message.now)) within
+          c.rotate_right.ensures.len
           ∙ length-set c.args.messages.now c.args.count c.args.message.now ∙ c.told-messages;
     }

@@ -3,7 +3,7 @@ use Rattle.model.specs.Arrays.{heads_by_station}
 use Rattle.model.specs.Waves.{heads_below, in_order, put_in, wave_of}
 use Rattle.model.proofs.Ranked.{heads_more, heads_none, heads_same}
 use Rattle.model.proofs.ranking.wave_of.Goals as goal
-use Rattle.model.proofs.ranking.wave_of.Goals.{in-Some, in-default}
+use Rattle.model.proofs.ranking.wave_of.Goals.{in-Some, in_default}
 
 pub loop-place-init : goal.loop-place-init
 loop-place-init g c =
@@ -11,19 +11,19 @@ loop-place-init g c =
 
 pub loop-place-preserved : goal.loop-place-preserved
 loop-place-preserved g c =
-    elim c.match-head-of-source.branch [
+    elim c.match-head_of_source.branch [
       | in-Some w ↦ (
-        ap₂ take w.count_is w.messages-is ∙ w.put-at-its-place.ensures.put
+        ap₂ take w.count_is w.messages-is ∙ w.put_at_its_place.ensures.put
             ∙ ap (put_in (g.T.TieOrder.means c.args.order.now) c.args.wave w.in-Some.head) c.loop-place.invariant.0
             ∙ heads_more (g.T.TieOrder.means c.args.order.now) c.args.wave c.args.heads.now c.args.sources c.loop-place.place
             w.in-Some.head w.in-Some.ensures,
         omega (arith, w.count_is, c.loop-place.invariant.1),
-        ap length w.messages-is ∙ w.put-at-its-place.ensures.places,
+        ap length w.messages-is ∙ w.put_at_its_place.ensures.places,
       )
-      | in-default w ↦ (
+      | in_default w ↦ (
         ap₂ take w.count_is w.messages-is ∙ c.loop-place.invariant.0
             ∙ heads_same (g.T.TieOrder.means c.args.order.now) c.args.wave c.args.heads.now c.args.sources c.loop-place.place
-            w.in-default.ensures,
+            w.in_default.ensures,
         omega (arith, w.count_is, c.loop-place.invariant.1),
         ap length w.messages-is ∙ c.loop-place.invariant.2,
       )

@@ -12,8 +12,8 @@ loop-place-preserved c =
     fill_by_more (λ k. one_more_if (has c.args.sources k) (get_or c.args.counts.now k 0)) c.loop-place.raised c.loop-place.place 0
     (omega arith) c.loop-place.invariant.1 in
     let told =
-    c.one-more-if.ensures ∙ ap (λ b. one_more_if b (get_or c.args.counts.now c.loop-place.place 0)) c.holds.ensures in
-    (length-set c.loop-place.raised c.loop-place.place c.one-more-if.result ∙ c.loop-place.invariant.0, rw told more)
+    c.one_more_if.ensures ∙ ap (λ b. one_more_if b (get_or c.args.counts.now c.loop-place.place 0)) c.holds.ensures in
+    (length-set c.loop-place.raised c.loop-place.place c.one_more_if.result ∙ c.loop-place.invariant.0, rw told more)
 
 pub returns : goal.returns
 unfolding raised_counts

@@ -1,4 +1,4 @@
-use Rattle.std.proofs.Common.{◌≡◌, ℕ, ◌+◌, ◌*◌, ◌<◌, ◌≤◌, min, List, length, sym, ap, ◌∙◌, mul-zero, arith}
+use Rattle.std.proofs.Common.{◌≡◌, ℕ, ◌+◌, ◌*◌, ◌<◌, ◌≤◌, List, length, sym, ap, ◌∙◌, mul-zero, arith}
 use Rattle.std.proofs.lemmas.Nat.{mul-le}
 use Rattle.std.proofs.lemmas.List.{get_or_past}
 use Rattle.wire.specs.Format.{weighted, check_sum}
@@ -13,26 +13,26 @@ term_bound weight value w v = mul-le weight value 508 255 w (omega arith)
 pub loop-place-init : goal.loop-place-init
 loop-place-init c = (sym (sum_below-none (weighted c.args.block.now)), omega arith)
 
-pub overflow-mul-sum : goal.overflow-mul-sum
-overflow-mul-sum c =
-    let fit = c.type-inv.block c.loop-place.place in
+pub overflow_mul-sum : goal.overflow_mul-sum
+overflow_mul-sum c =
+    let fit = c.type_inv.block c.loop-place.place in
     omega (arith, term_bound c.weight.result c.from.result (omega arith) (omega arith))
 
-pub overflow-add-sum : goal.overflow-add-sum
-overflow-add-sum c =
-    let fit = c.type-inv.block c.loop-place.place in
+pub overflow_add-sum : goal.overflow_add-sum
+overflow_add-sum c =
+    let fit = c.type_inv.block c.loop-place.place in
     omega (arith, term_bound c.weight.result c.from.result (omega arith) (omega arith))
 
 pub loop-place-preserved : goal.loop-place-preserved
 loop-place-preserved c =
     elim c.if-place-lt-CHECK_AT.branch [
       | then-place-lt-CHECK_AT w ↦
-          let fit = c.type-inv.block c.loop-place.place in
+          let fit = c.type_inv.block c.loop-place.place in
           let bound = term_bound w.weight.result w.from.result (omega arith) (omega arith) in
-          let step = sum_below-step 508 c.loop-place.place c.loop-place.sum (weighted c.args.block.now) w.if-place-lt-CHECK-AT.true c.loop-place.invariant.0 in
+          let step = sum_below-step 508 c.loop-place.place c.loop-place.sum (weighted c.args.block.now) w.if-place-lt-CHECK_AT.true c.loop-place.invariant.0 in
           (cc, omega (arith, w.sum-is, bound))
       | else-place-lt-CHECK_AT w ↦
-          let stays = sum_below-stays 508 c.loop-place.place (weighted c.args.block.now) w.if-place-lt-CHECK-AT.false in
+          let stays = sum_below-stays 508 c.loop-place.place (weighted c.args.block.now) w.if-place-lt-CHECK_AT.false in
           (cc, omega (arith, w.sum-is))
     ]
 

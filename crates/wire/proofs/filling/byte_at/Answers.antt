@@ -1,6 +1,5 @@
-use Rattle.std.proofs.Common.{◌≡◌, ℕ, ◌+◌, ◌-◌, ◌/◌, ◌%◌, ◌≤◌, List, length, get_or, sym, refl, ap, ◌∙◌, arith}
+use Rattle.std.proofs.Common.{◌-◌, get_or, sym, ap, ◌∙◌, arith}
 use Rattle.wire.specs.Format.{checked_part}
-use Rattle.wire.specs.Words.{byte}
 use Rattle.wire.proofs.Fields.{at_place, at_number, at_counts, at_order, at_length, at_note}
 use Rattle.wire.proofs.filling.byte_at.Goals as goal
 
@@ -41,8 +40,8 @@ returns-in-38-to-45 c =
     sym (at_order c.args.n c.args.message.now c.args.note.now (omega arith) (omega arith) (c.args.place - 38) (omega arith))
     ∙ at_place (checked_part c.args.n c.args.message.now c.args.note.now) 38 c.args.place (omega arith)
 
-pub returns-in-default : goal.returns-in-default
-returns-in-default c =
-    c.byte-or-zero.ensures
+pub returns-in_default : goal.returns-in_default
+returns-in_default c =
+    c.byte_or_zero.ensures
     ∙ sym (at_note c.args.n c.args.message.now c.args.note.now (omega arith) (omega arith) (c.args.place - 47))
     ∙ at_place (checked_part c.args.n c.args.message.now c.args.note.now) 47 c.args.place (omega arith)

@@ -6,8 +6,8 @@ use Rattle.wire.proofs.Seals.{sealed_is}
 use Rattle.wire.proofs.Verdicts.{fits-block}
 use Rattle.wire.proofs.filling.write_block.Goals as goal
 
-pub lay-out-requires : goal.lay-out-requires
-lay-out-requires c =
+pub lay_out-requires : goal.lay_out-requires
+lay_out-requires c =
     record {
       room = c.requires.room;
       short = (fits-block c.args.n c.args.message.now c.args.note.now c.requires.fit).short;

@@ -1,9 +1,9 @@
-use Rattle.std.proofs.Common.{◌≡◌, ℕ, ◌≤◌, List, sym, arith}
+use Rattle.std.proofs.Common.{sym, arith}
 use Rattle.wire.proofs.Verdicts.{reads-member}
 use Rattle.wire.proofs.labelling.label.Goals as goal
 
-pub overflow-sub-result : goal.overflow-sub-result
-overflow-sub-result c = omega (arith, reads-member c.args.block.now _ (sym c.in-ok-reading.ensures.answer))
+pub overflow_sub-result : goal.overflow_sub-result
+overflow_sub-result c = omega (arith, reads-member c.args.block.now _ (sym c.in_ok-reading.ensures.answer))
 
-pub slice-bounds-result-end : goal.slice-bounds-result-end
-slice-bounds-result-end c = omega (arith, reads-member c.args.block.now _ (sym c.in-ok-reading.ensures.answer))
+pub slice_bounds-result-end : goal.slice_bounds-result-end
+slice_bounds-result-end c = omega (arith, reads-member c.args.block.now _ (sym c.in_ok-reading.ensures.answer))

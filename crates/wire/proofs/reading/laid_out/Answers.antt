@@ -8,20 +8,20 @@ pub returns-then-block-ne-KIND : goal.returns-then-block-ne-KIND
 unfolding read_layout
 returns-then-block-ne-KIND c = grind (arith, nat_tests)
 
-pub returns-then-note-length-gt-NOTE : goal.returns-then-note-length-gt-NOTE
+pub returns-then-note_length-gt-NOTE : goal.returns-then-note_length-gt-NOTE
 unfolding read_layout
-returns-then-note-length-gt-NOTE c = grind (arith, nat_tests)
+returns-then-note_length-gt-NOTE c = grind (arith, nat_tests)
 
-pub returns-then-not-is-fitting : goal.returns-then-not-is-fitting
-returns-then-not-is-fitting c =
-    layout_unfit c.args.block.now c.message-in-message.result c.message-in-message.ensures
-    c.if-not-is-fitting.ensures.answer
+pub returns-then-not-is_fitting : goal.returns-then-not-is_fitting
+returns-then-not-is_fitting c =
+    layout_unfit c.args.block.now c.message_in-message.result c.message_in-message.ensures
+    c.if-not-is_fitting.ensures.answer
 
-pub returns-then-not-bytes-within : goal.returns-then-not-bytes-within
-returns-then-not-bytes-within c = layout_unspare c.args.block.now c.if-not-bytes-within.ensures
+pub returns-then-not-bytes_within : goal.returns-then-not-bytes_within
+returns-then-not-bytes_within c = layout_unspare c.args.block.now c.if-not-bytes_within.ensures
 
 pub returns : goal.returns
 returns c =
     layout_good c.args.block.now c.message_in-message.result c.message_in-message.ensures
     c.if-block-ne-KIND.false c.if-note_length-gt-NOTE.false
-    c.if-not-is_fitting.ensures.answer c.if-not-bytes-within.ensures
+    c.if-not-is_fitting.ensures.answer c.if-not-bytes_within.ensures

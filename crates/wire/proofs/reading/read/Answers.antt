@@ -10,13 +10,13 @@ use Rattle.wire.proofs.reading.read.Goals as goal
 again : (block : List ℕ) → ((i : ℕ) → Fits w8 (byte block i)) → FillsAgain block
 again block fits = fills_again block (λ i. let fit = fits i in omega arith)
 
-pub returns-in-err-verify : goal.returns-in-err-verify
-returns-in-err-verify c =
-    let p = err_from_is_err_and c.from-residual.result c.from-residual.ensures.1 in
+pub returns-in_err-verify : goal.returns-in_err-verify
+returns-in_err-verify c =
+    let p = err_from_is_err_and c.from_residual.result c.from_residual.ensures.1 in
     record {
       answer =
-          rw (p.1, p.2) (sym (reading-refused c.args.block.now c.in-err-verify.field-0.0 (sym c.in-err-verify.ensures)));
-      fills_again = again c.args.block.now c.type-inv.block;
+          rw (p.1, p.2) (sym (reading-refused c.args.block.now c.in_err-verify.field-0.0 (sym c.in_err-verify.ensures)));
+      fills_again = again c.args.block.now c.type_inv.block;
       altered = altered_refused c.args.block.now;
       exchanged = exchanged_refused c.args.block.now;
     }
@@ -27,7 +27,7 @@ returns c =
       answer =
           c.laid_out.ensures
           ∙ sym (reading-verified c.args.block.now (sym c.in_ok-verify.ensures));
-      fills_again = again c.args.block.now c.ok.block;
+      fills_again = again c.args.block.now c.type_inv.block;
       altered = altered_refused c.args.block.now;
       exchanged = exchanged_refused c.args.block.now;
     }

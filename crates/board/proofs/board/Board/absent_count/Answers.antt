@@ -4,5 +4,5 @@ use Rattle.board.proofs.board.Board.absent_count.Goals as goal
 
 pub returns : goal.returns
 returns c =
-    number-told (is_absent c.args.self.now) c.absent-set.result c.size.result c.absent-set.ensures
+    number-told (is_absent c.args.self.now) c.absent_set.result c.size.result c.absent_set.ensures
     c.size.ensures

@@ -10,5 +10,5 @@ returns c =
     (λ voter. votes_at c.args.self.now voter c.args.one && not (votes_at c.args.self.now voter c.args.other))
     c.minus.result c.size.result
     (c.minus.ensures
-    ∙ ap₂ (λ x y. mask (λ voter. has x voter && not (has y voter)) 16) c.voters-of.ensures c.voters-of-2.ensures)
+    ∙ ap₂ (λ x y. mask (λ voter. has x voter && not (has y voter)) 16) c.voters_of.ensures c.voters_of-2.ensures)
     c.size.ensures

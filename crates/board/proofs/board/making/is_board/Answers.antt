@@ -9,8 +9,8 @@ pub returns : goal.returns
 returns c =
     board_is (eqb (length c.args.voters.now) 16) (up_to c.args.n c.args.present)
     (every (fair c.args.n c.args.present c.args.voters.now)) (every (votes c.args.present c.args.voters.now))
-    c.is-within.result
+    c.is_within.result
     (eq-eqb (length c.args.voters.now) 16 c.told-voters)
-    (sym c.if-not-is-up-to.ensures)
-    (sym c.if-not-are-fair.ensures)
-    (c.is-within.ensures ∙ all_vote c.args.present c.voting.result c.args.voters.now c.voting.ensures)
+    (sym c.if-not-is_up_to.ensures)
+    (sym c.if-not-are_fair.ensures)
+    (c.is_within.ensures ∙ all_vote c.args.present c.voting.result c.args.voters.now c.voting.ensures)

@@ -7,8 +7,8 @@ use Rattle.rules.proofs.threshold.sentences.is_led.Goals as goal
 pub loop-other-init : goal.loop-other-init
 loop-other-init c = some-none (λ other. candidate c.args.board.now other && ltb c.args.phi (lead c.args.board.now other c.args.place))
 
-pub returns-then-does-lead : goal.returns-then-does-lead
-returns-then-does-lead c = some-found (λ other. candidate c.args.board.now other && ltb c.args.phi (lead c.args.board.now other c.args.place)) 16 c.loop-other.other (omega arith) (sym c.if-does-lead.ensures)
+pub returns-then-does_lead : goal.returns-then-does_lead
+returns-then-does_lead c = some-found (λ other. candidate c.args.board.now other && ltb c.args.phi (lead c.args.board.now other c.args.place)) 16 c.loop-other.other (omega arith) (sym c.if-does_lead.ensures)
 
 pub loop-other-preserved : goal.loop-other-preserved
-loop-other-preserved c = some_goes_on (λ other. candidate c.args.board.now other && ltb c.args.phi (lead c.args.board.now other c.args.place)) c.loop-other.other c.loop-other.invariant (sym c.if-does-lead.ensures)
+loop-other-preserved c = some_goes_on (λ other. candidate c.args.board.now other && ltb c.args.phi (lead c.args.board.now other c.args.place)) c.loop-other.other c.loop-other.invariant (sym c.if-does_lead.ensures)

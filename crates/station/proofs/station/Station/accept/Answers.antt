@@ -5,8 +5,8 @@ use Rattle.station.proofs.Held.{used-told}
 use Rattle.station.proofs.Taken.{count_small, counts_held, room_left, sound_more, state_more}
 use Rattle.station.proofs.station.Station.accept.Goals as goal
 
-pub overflow-add-accepted : goal.overflow-add-accepted
-overflow-add-accepted c = let small = count_small c.args.self.now c.args.message.now c.requires in search rules
+pub overflow_add-accepted : goal.overflow_add-accepted
+overflow_add-accepted c = let small = count_small c.args.self.now c.args.message.now c.requires in search rules
 
 pub bounds-self-self : goal.bounds-self-self
 bounds-self-self c = room_left c.args.self.now c.args.message.now c.requires

@@ -6,12 +6,12 @@ pub invariant-of-result : goal.invariant-of-result
 invariant-of-result c = (
   group_told c.args.self.now c.requires.open,
   (
-    sets_hold c.args.self.now c.args.heads.now c.requires.heads c.present.result c.voter-sets.result c.present.ensures
-        c.voter-sets.ensures,
+    sets_hold c.args.self.now c.args.heads.now c.requires.heads c.present.result c.voter_sets.result c.present.ensures
+        c.voter_sets.ensures,
     tt,
   ),
 )
 
 pub returns : goal.returns
 returns c =
-    board_told c.args.self.now c.args.heads.now c.requires.heads _ refl c.present.ensures c.voter-sets.ensures
+    board_told c.args.self.now c.args.heads.now c.requires.heads _ refl c.present.ensures c.voter_sets.ensures

@@ -7,8 +7,8 @@ use Rattle.station.proofs.Appended.{counts_next, sound_next, waves_next}
 use Rattle.station.proofs.Boarded.{waves_small}
 use Rattle.station.proofs.station.Station.count_wave.Goals as goal
 
-pub overflow-add-self-2 : goal.overflow-add-self-2
-overflow-add-self-2 c = let small = waves_small c.args.self.now c.requires.may.live in search rules
+pub overflow_add-self-2 : goal.overflow_add-self-2
+overflow_add-self-2 c = let small = waves_small c.args.self.now c.requires.may.live in search rules
 
 pub invariant-of-self : goal.invariant-of-self
 invariant-of-self c =
@@ -25,7 +25,7 @@ invariant-of-self c =
             (
               c.args.self.now.accepted_told,
               (
-                ap₂ (λ numbers entries. counts numbers (on_roll entries)) c.with-one-more-released.ensures there
+                ap₂ (λ numbers entries. counts numbers (on_roll entries)) c.with_one_more-released.ensures there
                     ∙ counts_next c.args.self.now c.args.wave.now c.requires.may,
                 (
                   subst (λ roll. ∥ Sound (record { settings = state.settings; accepted = state.accepted; roll = roll; posted = state.posted }) ∥₁) (sym there)

@@ -6,20 +6,20 @@ use Rattle.station.proofs.Held.{none_beyond}
 use Rattle.station.proofs.Looked.{found_there, not_there, nowhere}
 use Rattle.station.proofs.station.Station.find.Goals as goal
 
-pub returns-then-is-beyond : goal.returns-then-is-beyond
-returns-then-is-beyond c =
+pub returns-then-is_beyond : goal.returns-then-is_beyond
+returns-then-is_beyond c =
     none_beyond (state_of_station c.args.self.now) c.args.station c.args.number c.args.self.now.sound
-    c.if-is-beyond.ensures
+    c.if-is_beyond.ensures
 
-pub returns-then-is-of : goal.returns-then-is-of
-returns-then-is-of c =
+pub returns-then-is_of : goal.returns-then-is_of
+returns-then-is_of c =
     found_there c.args.self.now.table.now c.args.self.now.used c.loop-place.place c.args.station c.args.number _
-    c.loop-place-test.true (omega arith) c.loop-place.invariant (sym c.if-is-of.ensures)
+    c.loop-place-test.true (omega arith) c.loop-place.invariant (sym c.if-is_of.ensures)
 
 pub loop-place-preserved : goal.loop-place-preserved
 loop-place-preserved c =
     not_there c.args.self.now.table.now c.args.self.now.used c.loop-place.place c.args.station c.args.number _
-    c.loop-place-test.true (omega arith) c.loop-place.invariant (sym c.if-is-of.ensures)
+    c.loop-place-test.true (omega arith) c.loop-place.invariant (sym c.if-is_of.ensures)
 
 pub returns : goal.returns
 returns c =

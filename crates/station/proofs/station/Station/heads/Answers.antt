@@ -7,8 +7,8 @@ use Rattle.station.specs.Standing.{state_of_station}
 use Rattle.station.proofs.Boarded.{released_small, released_told}
 use Rattle.station.proofs.station.Station.heads.Goals as goal
 
-pub overflow-add-self : goal.overflow-add-self
-overflow-add-self c = let small = released_small c.args.self.now c.requires c.loop-place.place c.loop-place-test.true in search rules
+pub overflow_add-self : goal.overflow_add-self
+overflow_add-self c = let small = released_small c.args.self.now c.requires c.loop-place.place c.loop-place-test.true in search rules
 
 pub loop-place-preserved : goal.loop-place-preserved
 loop-place-preserved c =

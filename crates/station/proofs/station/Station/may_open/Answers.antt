@@ -7,9 +7,9 @@ use Rattle.station.proofs.station.Station.may_open.Goals as goal
 pub returns : goal.returns
 returns c =
     record {
-      answer = c.check-settings.ensures;
+      answer = c.check_settings.ensures;
       answers =
           subst (OpenAnswers (settings_of c.args.n c.args.own c.args.table.now c.args.roll.now))
-          (sym c.check-settings.ensures)
+          (sym c.check_settings.ensures)
           (open_answers (settings_of c.args.n c.args.own c.args.table.now c.args.roll.now));
     }

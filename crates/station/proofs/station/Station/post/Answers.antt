@@ -3,15 +3,15 @@ use Rattle.std.proofs.lemmas.Result.{err_from_is_err_and}
 use Rattle.station.proofs.Posted.{done_post, refused_post, some_left, sound_posted, state_posted}
 use Rattle.station.proofs.station.Station.post.Goals as goal
 
-pub returns-in-err-entry : goal.returns-in-err-entry
-returns-in-err-entry g c =
+pub returns-in_err-entry : goal.returns-in_err-entry
+returns-in_err-entry g c =
     let refused = err_from_is_err_and c.from-residual.result c.from-residual.ensures.1 in
     refused_post g.B.Book.step g.B.Book.holds c.args.self.now c.args.book.now c.from-residual.result
-    c.in-err-entry.field-0.0 (refused.1 ∙ ap Err refused.2) (sym c.in-err-entry.ensures)
+    c.in_err-entry.field-0.0 (refused.1 ∙ ap Err refused.2) (sym c.in_err-entry.ensures)
 
 pub invariant-of-self : goal.invariant-of-self
 invariant-of-self g c =
-    let left = some_left c.args.self.now c.in-ok-entry.entry c.in-ok-entry.ensures in (
+    let left = some_left c.args.self.now c.in_ok-entry.entry c.in_ok-entry.ensures in (
       c.args.self.now.table_fits,
       (
         c.args.self.now.roll_fits,
@@ -28,5 +28,5 @@ invariant-of-self g c =
 pub returns : goal.returns
 returns g c =
     done_post g.B.Book.step g.B.Book.holds c.args.self.now c.args.book.now _ c.post-reply.new.self
-    c.in-ok-entry.entry c.post-reply.result (sym c.in-ok-entry.ensures) c.post-reply.ensures.reply
+    c.in_ok-entry.entry c.post-reply.result (sym c.in_ok-entry.ensures) c.post-reply.ensures.reply
     c.post-reply.ensures.next (state_posted c.args.self.now) refl refl (record { table = refl; roll = refl })

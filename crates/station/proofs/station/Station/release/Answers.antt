@@ -6,17 +6,17 @@ use Rattle.station.proofs.Appended.{wave_long}
 use Rattle.station.proofs.Settled.{done_release, refused_release}
 use Rattle.station.proofs.station.Station.release.Goals as goal
 
-pub returns-in-err-wave : goal.returns-in-err-wave
-returns-in-err-wave g c =
+pub returns-in_err-wave : goal.returns-in_err-wave
+returns-in_err-wave g c =
     let refused = err_from_is_err_and c.from-residual.result c.from-residual.ensures.1 in
     refused_release c.args.self.now (g.R.Rule.means c.args.rule.now) (g.T.TieOrder.means c.args.order.now)
-    c.from-residual.result c.in-err-wave.field-0.0 (refused.1 ∙ ap Err refused.2) (sym c.in-err-wave.ensures.wave)
+    c.from-residual.result c.in_err-wave.field-0.0 (refused.1 ∙ ap Err refused.2) (sym c.in_err-wave.ensures.wave)
 
 pub returns : goal.returns
 returns g c =
-    let wave = c.in-ok-wave.wave in
-    let sized = c.in-ok-wave.ensures.sized in
+    let wave = c.in_ok-wave.wave in
+    let sized = c.in_ok-wave.ensures.sized in
     done_release c.args.self.now (g.R.Rule.means c.args.rule.now) (g.T.TieOrder.means c.args.order.now)
-    c.append.new.self (entries_of c.args.self.now wave) wave.count (sym c.in-ok-wave.ensures.wave)
-    (wave_long c.args.self.now wave c.in-ok-wave.ensures.may (next_wave (state_of_station c.args.self.now)) sized.few sized.places)
+    c.append.new.self (entries_of c.args.self.now wave) wave.count (sym c.in_ok-wave.ensures.wave)
+    (wave_long c.args.self.now wave c.in_ok-wave.ensures.may (next_wave (state_of_station c.args.self.now)) sized.few sized.places)
     c.append.ensures.next c.append.ensures.table c.append.ensures.roll c.append.ensures.lent

@@ -5,5 +5,5 @@ use Rattle.station.proofs.station.Station.take.Goals as goal
 
 pub accept-requires : goal.accept-requires
 accept-requires c =
-    may-take (state_of_station c.args.self.now) c.args.message.now c.in-ok-check-message.field-0 c.requires.open c.requires.group
-    (sym c.in-ok-check-message.ensures)
+    may-take (state_of_station c.args.self.now) c.args.message.now c.in_ok-check_message.field-0 c.requires.open c.requires.group
+    (sym c.in_ok-check_message.ensures)

@@ -4,30 +4,30 @@ use Rattle.model.proofs.Decided.{never-taken}
 use Rattle.station.proofs.Drafted.{done_write, filled_is, filling_done, may_write_it, refused_write}
 use Rattle.station.proofs.station.Station.write.Goals as goal
 
-pub returns-in-err-message : goal.returns-in-err-message
-returns-in-err-message c =
+pub returns-in_err-message : goal.returns-in_err-message
+returns-in_err-message c =
     let refused = err_from_is_err_and c.from-residual.result c.from-residual.ensures.1 in
     refused_write c.args.self.now c.args.class c.args.order.now c.args.note.now c.args.block.now
-    c.from-residual.result c.in-err-message.field-0.0 (refused.1 ∙ ap Err refused.2) (sym c.in-err-message.ensures)
+    c.from-residual.result c.in_err-message.field-0.0 (refused.1 ∙ ap Err refused.2) (sym c.in_err-message.ensures)
 
-pub returns-in-err-fill : goal.returns-in-err-fill
-returns-in-err-fill c =
+pub returns-in_err-fill : goal.returns-in_err-fill
+returns-in_err-fill c =
     absurd
-    (never-taken c.in-err-fill.field-0.0 tt
-    (c.in-err-fill.ensures.answer
+    (never-taken c.in_err-fill.field-0.0 tt
+    (c.in_err-fill.ensures.answer
     ∙ filling_done c.args.self.now c.args.class c.args.order.now c.args.note.now c.args.block.now
-    c.in-ok-message.message (sym c.in-ok-message.ensures)))
+    c.in_ok-message.message (sym c.in_ok-message.ensures)))
 
 pub accept-requires : goal.accept-requires
 accept-requires c =
     may_write_it c.args.self.now c.args.class c.args.order.now c.args.note.now c.args.block.now
-    c.in-ok-message.message (sym c.in-ok-message.ensures)
+    c.in_ok-message.message (sym c.in_ok-message.ensures)
 
 pub returns : goal.returns
 returns c =
     done_write c.args.self.now c.args.class c.args.order.now c.args.note.now c.args.block.now
-    c.accept.new.self c.in-ok-message.message c.fill.new.block (sym c.in-ok-message.ensures)
+    c.accept.new.self c.in_ok-message.message c.fill.new.block (sym c.in_ok-message.ensures)
     (c.fill.ensures.memory
     ∙ filled_is c.args.self.now c.args.class c.args.order.now c.args.note.now c.args.block.now
-    c.in-ok-message.message (sym c.in-ok-message.ensures))
+    c.in_ok-message.message (sym c.in_ok-message.ensures))
     c.accept.ensures.next c.accept.ensures.table c.accept.ensures.roll c.accept.ensures.lent

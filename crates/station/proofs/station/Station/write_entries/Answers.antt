@@ -5,21 +5,21 @@ use Rattle.station.proofs.Boarded.{waves_small}
 use Rattle.station.proofs.Overwritten.{overwritten_none}
 use Rattle.station.proofs.station.Station.write_entries.Goals as goal
 
-pub overflow-add-number : goal.overflow-add-number
-overflow-add-number c = let small = waves_small c.args.self.now c.requires.may.live in search rules
+pub overflow_add-number : goal.overflow_add-number
+overflow_add-number c = let small = waves_small c.args.self.now c.requires.may.live in search rules
 
 pub loop-place-init : goal.loop-place-init
 loop-place-init c = (same-itself c.args.self.now, overwritten_none c.args.self.now.roll.now c.args.self.now.rolled)
 
-pub overflow-add-self : goal.overflow-add-self
-overflow-add-self c =
+pub overflow_add-self : goal.overflow_add-self
+overflow_add-self c =
     let few = room_small c.args.self.now c.args.wave.now c.requires.may c.requires.sized in
     let below = c.loop-place-test.true in
     let same = c.loop-place.invariant.0.rolled in
     search rules
 
-pub write-entry-requires : goal.write-entry-requires
-write-entry-requires c =
+pub write_entry-requires : goal.write_entry-requires
+write_entry-requires c =
     let sixteen = c.requires.sized.places in
     let few = c.requires.sized.few in
     record {
@@ -36,8 +36,8 @@ loop-place-preserved c =
     let few = c.requires.sized.few in
     let room = wave_room c.args.self.now c.args.wave.now c.requires.may few sixteen in
     let below = c.loop-place-test.true in (
-      same_on c.args.self.now c.loop-place.self c.write-entry.new.self c.loop-place.invariant.0 c.write-entry.ensures.same,
-      c.write-entry.ensures.roll
+      same_on c.args.self.now c.loop-place.self c.write_entry.new.self c.loop-place.invariant.0 c.write_entry.ensures.same,
+      c.write_entry.ensures.roll
           ∙ one_written c.args.self.now.roll.now c.loop-place.self.roll.now c.args.self.now.rolled
           (c.loop-place.self.rolled + c.loop-place.place) (c.args.self.now.waves + 1) c.loop-place.place c.args.wave.now.messages _
           (ap (λ k. k + c.loop-place.place) c.loop-place.invariant.0.rolled) (omega arith) (omega arith) c.loop-place.invariant.1,
