@@ -28,8 +28,8 @@ pub trait TieOrder {
 
 // Which of two heads goes first in a wave: the second where the order puts it before the first.
 pub fn first_of<T: TieOrder>(order: &T, wave: u32, a: Head, b: Head) -> Head
-    ensures answer { result ≡ (if (means order.now).before wave b a then b else a) }
-    ensures lawful { Lawful (means order.now) }
+    ensures answer { result ≡ (if (T.means order.now).before wave b a then b else a) }
+    ensures lawful { Lawful (T.means order.now) }
 {
     if order.before(wave, b, a) { b } else { a }
 }
