@@ -35,7 +35,7 @@ pub trait Book {
 pub fn post_all<B: Book>(book: &mut B, orders: &[[u8; ORDER]])
 where
     B::Reply: Drop,
-    ensures { holds book.new ≡ held_after step (holds book.old) orders.now }
+    ensures { B.holds book.new ≡ held_after B.step (B.holds book.old) orders.now }
 {
     for order in orders {
         let _ = book.post(order);
