@@ -1,6 +1,6 @@
 -- Boards and their sets: the steps by which the code makes one, and that a board is the board of its sets.
 -- Assumes nothing.
-use Rattle.std.proofs.Common.{◌≡◌, ℕ, ◌+◌, ◌*◌, ◌/◌, ◌%◌, ◌^◌, ◌<◌, ◌≤◌, Bool, true, false, not, ◌&&◌, ◌||◌, eqb, ◌⊎◌, List, Ok, Result, sym, refl, ap, ◌∙◌, subst, ⊎_elim, add-one, arith, pow_pos, pow_mono}
+use Rattle.std.proofs.Common.{◌≡◌, ℕ, ◌+◌, ◌*◌, ◌/◌, ◌%◌, ◌^◌, ◌<◌, ◌≤◌, Bool, true, false, not, ◌&&◌, ◌||◌, eqb, List, Ok, Result, sym, refl, ap, ◌∙◌, subst, ⊎_elim, add-one, arith, pow_pos, pow_mono}
 use mathlib.Core.Bool.{Bool-set}
 use native.Mathlib.Nat.{div-eq_of_lt}
 use Rattle.std.proofs.lemmas.Nat.{shr_split, mod_below}

@@ -1,5 +1,7 @@
 -- The words in which rules speak of a board, and when a board extends another. Assumes nothing.
 use Rattle.std.specs.Prelude.{◌≡◌, ℕ, Bool, true, false, not, ◌&&◌, List, Ok, Err, Result, ◌==◌, nat_lt, refl}
+use Rattle.std.specs.Ordering.{eq_of_both, on}
+use Rattle.std.specs.Cmp.Lexicographic.{pointwise}
 use Rattle.wire.specs.declared.fault.Fault.{Fault}
 use Rattle.wire.specs.declared.fault.Fault.TheVariants.{Setting, NoBoard}
 use Rattle.board.specs.Sets.{has, number_of}
@@ -56,6 +58,12 @@ voters_at board place = number_of (λ voter. votes_at board voter place)
 -- the lead of one candidate over another: how many stations vote for the first and not for the second
 abbrev pub lead : Board → ℕ → ℕ → ℕ
 lead board first second = number_of (λ voter. votes_at board voter first && not (votes_at board voter second))
+
+-- both boards have one n, one present set and the same voters at each place
+abbrev pub is_same_board : Board → Board → Bool
+is_same_board =
+    eq_of_both (on (λ board. board.n) ◌==◌)
+    (eq_of_both (on (λ board. board.present) ◌==◌) (on (λ board. board.voters) (pointwise ◌==◌)))
 
 -- a station that is present on the second board and not on the first
 abbrev pub newly_present : Board → Board → ℕ → Bool

@@ -1,10 +1,10 @@
 // Questions to a board, and when two are the same.
 ghost use Rattle.std.specs.Prelude.{◌≡◌, Decides};
 ghost use Rattle.board.specs.Ballots.{votes_for};
-ghost use Rattle.board.specs.Boards.{absent, all_present, candidate, is_absent, is_present, lead, member, voters_at};
+ghost use Rattle.board.specs.Boards.{absent, all_present, candidate, is_absent, is_present, is_same_board, lead, member, voters_at};
 ghost use Rattle.board.specs.Sets.{set_of};
 ghost use Rattle.std.specs.Cmp.Rules.{comparing};
-ghost use Rattle.std.proofs.Common.{rules, arith};
+ghost use Rattle.std.proofs.Common.{rules};
 
 use crate::board::Board;
 use crate::sets::{first, holds, minus, size};
@@ -78,11 +78,15 @@ impl Board {
 }
 
 impl PartialEq for Board {
-    ghost equals = { λ one other r. Decides r (one ≡ other) };
+    ghost eq = { is_same_board };
 
-    ghost laws = { first_of (Prim.search (comparing, rules), Prim.grind (arith, Self.row.coded.inj)) };
+    ghost laws = { Prim.search (comparing, rules) };
 
-    fn eq(&self, other: &Board) -> bool {
+    // Two boards are equal just where they are the same board.
+    fn eq(&self, other: &Board) -> bool
+        ensures answer { result ≡ is_same_board self.now other.now }
+        ensures same { Decides result (self.now ≡ other.now) }
+    {
         if self.n != other.n {
             return false;
         }

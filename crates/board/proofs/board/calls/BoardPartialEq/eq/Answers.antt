@@ -4,8 +4,8 @@ use Rattle.board.proofs.Made.{same-board}
 use Rattle.board.proofs.board.calls.BoardPartialEq.eq.Goals as goal
 use Rattle.std.proofs.lemmas.Bool.Decides.{Decides-eqb}
 
-pub returns : goal.returns
-returns c =
+pub returns-clause-same : goal.returns-clause-same
+returns-clause-same c =
     let decides = slice_eq-Decides Decides-eqb c.args.self.now.voters c.args.other.now.voters c.eq.result c.eq.ensures in (
       (λ e. same-board c.args.self.now c.args.other.now c.if-self-other.false c.if-self-other-2.false (decides.0 e)),
       (λ e. decides.1 (ap (λ board. board.voters) e)),
