@@ -57,10 +57,10 @@ module _ (accepted : Accepted) (released : Released) where
   head_of station = head accepted released station
 
   abbrev stands : ℕ → Bool
-  stands station = heads.is-candidate accepted released station
+  stands station = heads.is_candidate accepted released station
 
   abbrev is_present : ℕ → Bool
-  is_present station = heads.is-present accepted released station
+  is_present station = heads.is_present accepted released station
 
   abbrev votes : ℕ → ℕ → Bool
   votes voter station = heads.votes accepted released voter station

@@ -1,17 +1,16 @@
 -- What a station keeps when it is opened and when it accepts a message. Assumes nothing.
-use Rattle.std.proofs.Common.{◌≡◌, ℕ, zero, suc, ◌+◌, ◌<◌, ◌≤◌, Bool, true, false, cond, not, ◌&&◌, eqb, ltb, ◌⊎◌, List, [], ◌∷◌, ◌++◌, is_some, Some, None, Decides, Option, sym, refl, ap, ◌∙◌, subst, ap₂, inl, inr, ⊎_elim, le_trans, le_refl, arith}
-use Rattle.std.proofs.lemmas.Bool.{and_cases, and_from, and_parts, cases_Bool, cases_lt, eq-eqb, eqb-true, eqb-false, ltb-false, ne_eqb, not-false, true≢false}
+use Rattle.std.proofs.Common.{◌≡◌, ℕ, zero, suc, ◌+◌, ◌<◌, ◌≤◌, true, false, cond, not, eqb, ltb, ◌⊎◌, List, [], ◌∷◌, ◌++◌, is_some, Some, None, Option, sym, refl, ap, ◌∙◌, subst, ap₂, inl, inr, ⊎_elim, le_trans, le_refl, arith}
+use Rattle.std.proofs.lemmas.Bool.{and_cases, and_parts, cases_Bool, cases_lt, eq-eqb, eqb-true, eqb-false, ltb-false, not-false, true≢false}
 use Rattle.board.proofs.Places.{one, some_not}
 use Rattle.wire.specs.Messages.{well_formed}
 use Rattle.wire.specs.declared.message.Message.{Message}
 use Rattle.model.specs.Accepted.{accepted_as, crossed, early, is_crossed_by, is_named, lacks, some_exceeds, tally}
 use Rattle.model.specs.Calls.{opened}
-use Rattle.model.specs.Following.{Follows, count_of, exceeds}
+use Rattle.model.specs.Following.{count_of}
 use Rattle.model.specs.Sound.{Begun, Gapless, Kept, Orderly, Sound}
 use Rattle.model.specs.States.{Settings, State, accepting, known, on_roll, posting}
-use Rattle.model.specs.Waves.{On}
 use Rattle.model.proofs.MessageFacts.{group_small, no_count-above, number_first, own_count}
-use Rattle.model.proofs.Pushed.{accepted_new, accepted_old, accepted-push, found-is, on_push, tally-push}
+use Rattle.model.proofs.Pushed.{accepted_new, accepted_old, found-is, on_push, tally-push}
 
 -- Nothing is found where nothing is.
 

@@ -5,7 +5,7 @@ use Rattle.board.specs.Rules.{RuleMeaning}
 use Rattle.board.specs.declared.board.Board.{Board}
 use Rattle.ties.specs.Ties.{TieMeaning}
 use Rattle.wire.specs.declared.fault.Fault.{Fault}
-use Rattle.wire.specs.declared.fault.Fault.TheVariants.{NothingReady, Setting}
+use Rattle.wire.specs.declared.fault.Fault.TheVariants.{Setting}
 use Rattle.model.specs.declared.entry.Entry.{Entry}
 use Rattle.model.specs.Calls.{outcome, release_of, settled_wave, shown_board, wave_from}
 use Rattle.model.specs.Heads.{board_at}

@@ -366,7 +366,7 @@ module _
       let vote = source_vote place source in
       let small = voter_place board place place vote in
       some-message (head (known state) (released state) (suc place))
-      (sym (has-mask (λ k. heads.is-present (known state) (released state) (suc k)) 16 place small)
+      (sym (has-mask (λ k. heads.is_present (known state) (released state) (suc k)) 16 place small)
       ∙ ap (λ set. has set place) (sym made.present_is) ∙ voter_present board place place vote)
 
   -- a head is of its station, under the number after the released

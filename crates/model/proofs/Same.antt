@@ -1,6 +1,6 @@
 -- What comparing lists of numbers tells of messages that are alike. Assumes nothing.
-use Rattle.std.proofs.Common.{◌≡◌, ℕ, Bool, true, false, not, ◌&&◌, List, Decides, sym, refl, arith}
-use Rattle.std.specs.Cmp.Lexicographic.{Matches}
+use Rattle.std.proofs.Common.{◌≡◌, ℕ, Bool, true, false, not, ◌&&◌, eqb, List, Decides, sym, refl, arith}
+use Rattle.std.specs.Cmp.Lexicographic.{pointwise}
 use Rattle.std.proofs.lemmas.Slice.Eq.{slice_eq-Decides}
 use Rattle.std.proofs.lemmas.Bool.{true≢false}
 use Rattle.std.proofs.lemmas.Bool.Decides.{nat_tests, Decides-eqb}
@@ -14,9 +14,8 @@ decided_same false true d e = absurd (true≢false (sym (d.1 (e.0 refl))))
 decided_same false false d e = refl
 
 -- what `==` answers on lists of numbers
-pub same-told :
-    (xs ys : List ℕ) (r : Bool) → Matches (λ (a b : ℕ) (t : Bool). Decides t (a ≡ b)) xs ys r → r ≡ same_numbers xs ys
-same-told xs ys r m = decided_same r (same_numbers xs ys) (slice_eq-Decides Decides-eqb xs ys r m) (same_decides xs ys)
+pub same-told : (xs ys : List ℕ) (r : Bool) → r ≡ pointwise eqb xs ys → r ≡ same_numbers xs ys
+same-told xs ys r e = decided_same r (same_numbers xs ys) (slice_eq-Decides Decides-eqb xs ys r e) (same_decides xs ys)
 
 -- what the tests of the three parts tell
 pub unlike_after : (r x same rest : Bool) → r ≡ not x → r ≡ true → x ≡ same → false ≡ (same && rest)

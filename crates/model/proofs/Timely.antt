@@ -1,6 +1,6 @@
 -- Early by counts: something that a message follows is missing just where its count is above the tally.
 -- Assumes nothing.
-use Rattle.std.proofs.Common.{◌≡◌, ℕ, suc, ◌<◌, ◌≤◌, Bool, true, false, not, ltb, List, is_some, sym, ap, ◌∙◌, ⊎_elim, arith}
+use Rattle.std.proofs.Common.{◌≡◌, ℕ, suc, ◌<◌, ◌≤◌, Bool, true, false, not, ltb, List, is_some, sym, ◌∙◌, ⊎_elim, arith}
 use Rattle.std.proofs.lemmas.Bool.{cases_Bool, cases_lt, le-ltb, lt-ltb, not_from_true, not_from_false, true≢false}
 use Rattle.board.specs.Sets.{any, some}
 use Rattle.board.proofs.Places.{some_at, some-from, some_same}

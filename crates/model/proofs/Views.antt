@@ -66,7 +66,7 @@ module _
       made_of n (present_set accepted released) (voter_sets accepted released) (is_group n)
       (is_board n (present_set accepted released) (voter_sets accepted released)) refl refl board made
 
-  pub present_at : (place : ℕ) → boards.is-present board place ≡ (ltb place 16 && is_present accepted released (suc place))
+  pub present_at : (place : ℕ) → boards.is_present board place ≡ (ltb place 16 && is_present accepted released (suc place))
   present_at place =
       ap (λ s. has s place) sets_of.present_is
       ∙ has_collected (λ k. is_present accepted released (suc k)) 16 place
@@ -194,13 +194,13 @@ module _
             (cases_lt place 16);
       }
     where
-      now_at : (place : ℕ) → boards.is-present wide place ≡ (ltb place 16 && is_present wider released (suc place))
+      now_at : (place : ℕ) → boards.is_present wide place ≡ (ltb place 16 && is_present wider released (suc place))
       now_at = present_at n wider released wide made_Wide
 
-      then_at : (place : ℕ) → boards.is-present board place ≡ (ltb place 16 && is_present accepted released (suc place))
+      then_at : (place : ℕ) → boards.is_present board place ≡ (ltb place 16 && is_present accepted released (suc place))
       then_at = present_at n accepted released board made
 
-      kept : (place : ℕ) → boards.is-present board place ≡ true → boards.is-present wide place ≡ true
+      kept : (place : ℕ) → boards.is_present board place ≡ true → boards.is_present wide place ≡ true
       kept place e =
           let both = and_parts (ltb place 16) (is_present accepted released (suc place)) (sym (then_at place) ∙ e) in
           let found = some-message (head accepted released (suc place)) both.1 in
@@ -209,7 +209,7 @@ module _
           (ap is_some (within (suc place) (suc (released (suc place))) found.0 found.1))
 
       inside :
-          (voter place : ℕ) → boards.newly-present board wide voter ≡ false → place < 16
+          (voter place : ℕ) → boards.newly_present board wide voter ≡ false → place < 16
           → votes_at wide voter place ≡ votes_at board voter place
       inside voter place old below =
           vote_inside n wider released wide made_Wide voter place below

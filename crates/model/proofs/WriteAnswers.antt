@@ -1,17 +1,17 @@
 -- When each answer of write and of post comes. Assumes nothing.
-use Rattle.std.proofs.Common.{◌≡◌, ℕ, zero, suc, ◌<◌, ◌≤◌, Bool, true, false, cond, eqb, leb, List, [], ◌∷◌, length, Some, None, Ok, Err, Decides, Option, Result, sym, refl, ap, ◌∙◌, ⊎_elim, arith}
+use Rattle.std.proofs.Common.{◌≡◌, ℕ, zero, suc, ◌<◌, Bool, true, false, cond, eqb, leb, List, [], ◌∷◌, length, Some, None, Ok, Err, Decides, Option, Result, sym, refl, ap, ◌∙◌, ⊎_elim, arith}
 use Rattle.std.specs.List.{slice_get}
 use Rattle.std.proofs.lemmas.Option.{slice_get_past}
 use Rattle.std.proofs.lemmas.Bool.{and_from, and_parts, both_ways, cases_lt, eq-eqb, eqb-true, false≢true, le-leb, leb-true}
 use Rattle.wire.specs.Format.{noted}
-use Rattle.wire.specs.Words.{all_within, byte}
+use Rattle.wire.specs.Words.{all_within}
 use Rattle.wire.specs.declared.fault.Fault.{Fault}
-use Rattle.wire.specs.declared.fault.Fault.TheVariants.{Full, Layout, Length, NothingToPost, Setting}
+use Rattle.wire.specs.declared.fault.Fault.TheVariants.{Full, Layout, Length, Setting}
 use Rattle.wire.specs.declared.message.Message.{Message}
 use Rattle.wire.proofs.Ranges.{within_at}
 use Rattle.model.specs.declared.entry.Entry.{Entry}
 use Rattle.model.specs.Calls.{may_write, next_message, outcome, post_of, to_post, write_of}
-use Rattle.model.specs.Meanings.{HasNoRoom, IsWritable, PostAnswers, Replies, WriteAnswers}
+use Rattle.model.specs.Meanings.{HasNoRoom, IsWritable, PostAnswers, WriteAnswers}
 use Rattle.model.specs.States.{State, accepting, entry_at, is_full, is_shut, posting}
 use Rattle.model.proofs.AnswerLaws.{comes, fails}
 use Rattle.model.proofs.Written.{within-from}

@@ -1,6 +1,6 @@
 -- The messages that a station has accepted, by station and number, and what keeps a message out.
 -- A list of accepted messages is in the order in which they were accepted. Assumes nothing.
-use Rattle.std.specs.Prelude.{ℕ, zero, suc, ◌+◌, Bool, false, cond, not, ◌&&◌, List, [], ◌∷◌, map, is_some, Some, None, Option, ◌==◌}
+use Rattle.std.specs.Prelude.{ℕ, suc, ◌+◌, Bool, false, cond, not, ◌&&◌, List, [], ◌∷◌, map, is_some, Some, None, Option, ◌==◌}
 use Rattle.std.specs.List.{range_with_len}
 use Rattle.board.specs.Sets.{any, some}
 use Rattle.wire.specs.declared.message.Message.{Message}

@@ -1,5 +1,5 @@
 -- Heads and counts that are kept in arrays, one place for each of sixteen stations. Assumes nothing.
-use Rattle.std.specs.Prelude.{◌≡◌, ℕ, zero, suc, ◌+◌, ◌≤◌, min, Bool, true, false, cond, ◌&&◌, List, [], ◌∷◌, map, length, take, is_some, Some, None, Option, slice_index, slice_index_or}
+use Rattle.std.specs.Prelude.{◌≡◌, ℕ, zero, suc, ◌+◌, ◌≤◌, min, Bool, cond, ◌&&◌, List, [], ◌∷◌, map, length, take, is_some, None, Option, slice_index, slice_index_or}
 use Rattle.std.specs.List.{range_with_len}
 use Rattle.board.specs.Sets.{has, set_of}
 use Rattle.ties.specs.Ties.{TieMeaning}

@@ -8,7 +8,7 @@ use Rattle.wire.specs.declared.fault.Fault.{Fault}
 use Rattle.wire.specs.declared.fault.Fault.TheVariants.{Length, Layout, Repeat, Clash, Early, Crossed, Full, NothingReady, NothingToPost, NoSuchPlace, Setting}
 use Rattle.wire.specs.declared.message.Message.{Message}
 use Rattle.model.specs.declared.entry.Entry.{Entry}
-use Rattle.model.specs.Accepted.{Accepted, crossed, early, tallies, tally}
+use Rattle.model.specs.Accepted.{crossed, early, tallies, tally}
 use Rattle.model.specs.Following.{alike}
 use Rattle.model.specs.Heads.{board_at, head}
 use Rattle.model.specs.States.{Settings, State, accepting, entry_at, is_full, is_shut, known, last_wave, may_open, posting, released, releasing}

@@ -1,5 +1,5 @@
 -- The laws of heads, boards and waves. Assumes nothing.
-use Rattle.std.specs.Prelude.{◌≡◌, ℕ, suc, ◌<◌, ◌≤◌, true, false, ◌↔◌, List, is_some, Some, Ok}
+use Rattle.std.specs.Prelude.{◌≡◌, ℕ, ◌<◌, ◌≤◌, true, ◌↔◌, List, is_some, Some, Ok}
 use Rattle.board.specs.Ballots.{is_group}
 use Rattle.board.specs.Sets.{has}
 use Rattle.board.specs.declared.board.Board.{Board}

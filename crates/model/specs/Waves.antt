@@ -1,5 +1,5 @@
 -- The wave of a settled board: the heads of the sources in tie order. Assumes nothing.
-use Rattle.std.specs.Prelude.{◌≡◌, ℕ, zero, suc, Bool, true, false, cond, ◌⊎◌, List, [], ◌∷◌, ◌++◌, Some, None, Option}
+use Rattle.std.specs.Prelude.{◌≡◌, ℕ, zero, suc, Bool, true, false, cond, ◌⊎◌, List, [], ◌∷◌, Some, None, Option}
 use Rattle.board.specs.Sets.{has}
 use Rattle.ties.specs.Ties.{TieMeaning}
 use Rattle.ties.specs.declared.tie.Head.{Head}

@@ -17,7 +17,7 @@ pub fn wave_of<T: TieOrder>(
     heads: &[Option<Message>; STATIONS],
     sources: u16,
 ) -> Wave
-    ensures messages { wave_messages result ≡ wave_of (means order.now) wave (heads_by_station heads.now) sources }
+    ensures messages { wave_messages result ≡ wave_of (T.means order.now) wave (heads_by_station heads.now) sources }
     ensures sources { result.sources ≡ sources }
     ensures sized { Sized result }
 {
@@ -60,7 +60,7 @@ fn put_at_its_place<T: TieOrder>(
     count: usize,
 )
     requires { count < 16 }
-    ensures put { take (count + 1) messages.new ≡ put_in (means order.now) wave message.now (take count messages.old) }
+    ensures put { take (count + 1) messages.new ≡ put_in (T.means order.now) wave message.now (take count messages.old) }
     ensures places { length messages.new ≡ 16 }
 {
     let place = find_place(order, wave, message, &messages[0..count]);
@@ -70,7 +70,7 @@ fn put_at_its_place<T: TieOrder>(
 
 // The first place whose message the given one goes before, or the end.
 fn find_place<T: TieOrder>(order: &T, wave: u32, message: &Message, messages: &[Message]) -> usize
-    ensures place { result ≡ place_for (means order.now) wave message.now messages.now }
+    ensures place { result ≡ place_for (T.means order.now) wave message.now messages.now }
     ensures within { result ≤ length messages.now }
 {
     for (place, other) in messages.iter().enumerate() {

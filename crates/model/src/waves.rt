@@ -25,7 +25,7 @@ pub fn votes_for(head: &Message, candidate: &Message) -> bool
 // Whether the one head goes before the other in a wave. By a lawful order the heads of the sources have
 // exactly one wave.
 pub fn is_before<T: TieOrder>(order: &T, wave: u32, message: &Message, other: &Message) -> bool
-    ensures answer { result ≡ goes_before (means order.now) wave message.now other.now }
+    ensures answer { result ≡ goes_before (T.means order.now) wave message.now other.now }
     ensures one_wave { WavesAreOne }
 {
     order.before(wave, as_head(message), as_head(other))

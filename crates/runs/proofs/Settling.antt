@@ -99,11 +99,11 @@ module _
       here place below =
           ⊎_elim
           (λ inside.
-          and_right (member board place) (not (boards.is-present board place))
+          and_right (member board place) (not (boards.is_present board place))
           (ap not (ap (λ (set : ℕ). has set place) shows.present_is
           ∙ has-mask (λ k. is_present accepted released (suc k)) 16 place below ∙ each place inside)))
           (λ outside.
-          and_left (member board place) (not (boards.is-present board place))
+          and_left (member board place) (not (boards.is_present board place))
           (le-ltb place board.n (omega (arith, outside, board_size))))
           (cases_lt place n)
 

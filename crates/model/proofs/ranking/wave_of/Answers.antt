@@ -13,18 +13,18 @@ pub loop-place-preserved : goal.loop-place-preserved
 loop-place-preserved g c =
     elim c.match-head_of_source.branch [
       | in-Some w ↦ (
-        ap₂ take w.count_is w.messages-is ∙ w.put_at_its_place.ensures.put
+        ap₂ take w.count-is w.messages-is ∙ w.put_at_its_place.ensures.put
             ∙ ap (put_in (g.T.TieOrder.means c.args.order.now) c.args.wave w.in-Some.head) c.loop-place.invariant.0
             ∙ heads_more (g.T.TieOrder.means c.args.order.now) c.args.wave c.args.heads.now c.args.sources c.loop-place.place
             w.in-Some.head w.in-Some.ensures,
-        omega (arith, w.count_is, c.loop-place.invariant.1),
+        omega (arith, w.count-is, c.loop-place.invariant.1),
         ap length w.messages-is ∙ w.put_at_its_place.ensures.places,
       )
       | in_default w ↦ (
-        ap₂ take w.count_is w.messages-is ∙ c.loop-place.invariant.0
+        ap₂ take w.count-is w.messages-is ∙ c.loop-place.invariant.0
             ∙ heads_same (g.T.TieOrder.means c.args.order.now) c.args.wave c.args.heads.now c.args.sources c.loop-place.place
             w.in_default.ensures,
-        omega (arith, w.count_is, c.loop-place.invariant.1),
+        omega (arith, w.count-is, c.loop-place.invariant.1),
         ap length w.messages-is ∙ c.loop-place.invariant.2,
       )
     ]
