@@ -1,7 +1,7 @@
 -- Nobody present is a board. Assumes nothing.
-use Rattle.std.proofs.Common.{◌≡◌, ℕ, zero, suc, ◌^◌, ◌<◌, Bool, true, not, ◌&&◌, eqb, ltb, List, length, get_or, replicate, refl, ap, ◌∙◌, pow_pos}
+use Rattle.std.proofs.Common.{◌≡◌, ℕ, zero, suc, ◌^◌, Bool, true, not, ◌&&◌, eqb, List, length, get_or, replicate, refl, ap, ◌∙◌, pow_pos}
 use Rattle.std.proofs.lemmas.Bool.{and_from, lt-ltb}
-use Rattle.board.specs.Ballots.{fair, is_board, votes}
+use Rattle.board.specs.Ballots.{fair, votes}
 use Rattle.board.specs.Sets.{any, every, has, implies, up_to, within}
 use Rattle.board.proofs.Digits.{has-zero}
 use Rattle.board.proofs.Places.{all_from}
