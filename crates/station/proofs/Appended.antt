@@ -1,5 +1,5 @@
 -- A station with one wave more. Assumes nothing.
-use Rattle.std.proofs.Common.{◌≡◌, ℕ, suc, ◌+◌, ◌<◌, ◌≤◌, min, Bool, true, false, cond, eqb, List, [], ◌∷◌, ◌++◌, map, length, get_or, take, set, sym, refl, ap, ◌∙◌, subst, ap₂, add-one, arith}
+use Rattle.std.proofs.Common.{◌≡◌, ℕ, suc, ◌+◌, ◌<◌, ◌≤◌, Bool, true, false, cond, eqb, List, [], ◌∷◌, ◌++◌, map, length, get_or, take, set, sym, refl, ap, ◌∙◌, subst, ap₂, add-one, arith}
 use mathlib.Core.Bool.{Bool-set}
 use mathlib.Core.Logic.{∥∥₁_elim, ∥∥₁_map}
 use native.Mathlib.Bridge.{le_prop}
@@ -15,14 +15,14 @@ use Rattle.model.specs.Accepted.{tally}
 use Rattle.model.specs.Arrays.{Sized, one_more_if, raised_counts, wave_messages}
 use Rattle.model.specs.Calls.{as_entries, next_wave, wave_from}
 use Rattle.model.specs.Sound.{MayRelease, Sound}
-use Rattle.model.specs.States.{State, is_shut, last_wave, may_open, on_roll, released, releasing}
+use Rattle.model.specs.States.{State, last_wave, may_open, on_roll, released, releasing}
 use Rattle.model.specs.declared.entry.Entry.{Entry}
 use Rattle.model.specs.declared.wave.Wave.{Wave}
 use Rattle.model.proofs.Released.{last_wave_more, released_more, roll_room, sound_releasing}
 use Rattle.model.proofs.Written.{opened-live}
 use Rattle.wire.specs.declared.message.Message.{Message}
 use Rattle.station.specs.Memory.{counts, entries_in, holding_entry, messages_in, overwritten, state_of}
-use Rattle.station.specs.Standing.{SameButRoll, SameMemory, entries_of, state_of_station}
+use Rattle.station.specs.Standing.{SameButRoll, entries_of, state_of_station}
 use Rattle.station.specs.declared.places.RollPlace.{RollPlace}
 use Rattle.station.specs.declared.station.Station.{Station}
 use Rattle.station.proofs.Boarded.{released_small, released_told, roll-small}

@@ -18,7 +18,7 @@ use Rattle.board.proofs.Places.{all_same, mask-same}
 use Rattle.model.specs.Arrays.{counts_by_station, present_in, voter_sets_in, voters_in, votes_in}
 use Rattle.model.specs.Calls.{open_answer, release_decided, settled_wave, shown_board, wave_from}
 use Rattle.model.specs.Following.{count_of}
-use Rattle.model.specs.Heads.{Released, backs, board_at, head, is_present, present_set, ready_head, voter_sets, voters_of, votes}
+use Rattle.model.specs.Heads.{backs, board_at, is_present, present_set, ready_head, voter_sets, voters_of, votes}
 use Rattle.model.specs.States.{State, is_shut, known, may_open, on_roll, released}
 use Rattle.model.specs.Waves.{HeadsOf, add_head, heads_below, in_order, wave_of}
 use Rattle.model.proofs.BoardLaws.{board_holds}

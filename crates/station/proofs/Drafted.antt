@@ -1,11 +1,11 @@
 -- What a write answers and leaves, from what it drafted. Assumes nothing.
-use Rattle.std.proofs.Common.{◌≡◌, ℕ, suc, ◌+◌, ◌-◌, ◌<◌, ◌≤◌, Bool, true, false, cond, not, ◌&&◌, eqb, leb, List, length, get_or, set, is_some, Ok, Err, Result, sym, refl, ap, ◌∙◌, subst, ap₂, add-one, arith}
+use Rattle.std.proofs.Common.{◌≡◌, ℕ, suc, ◌+◌, ◌-◌, ◌<◌, ◌≤◌, Bool, true, false, cond, not, eqb, leb, List, length, get_or, set, is_some, Ok, Err, Result, sym, refl, ap, ◌∙◌, subst, add-one, arith}
 use mathlib.Core.Bool.{Bool-set}
 use mathlib.Core.Logic.{∥∥₁_elim}
 use Rattle.std.proofs.lemmas.List.FromFn.{fill_by_all}
 use Rattle.std.proofs.lemmas.Bool.{and_from, and_parts, cond-true, eq-eqb, leb-false, leb-true}
 use Rattle.model.specs.Accepted.{crossed, early, tallies, tally}
-use Rattle.model.specs.Calls.{block_left, may_write, next_message, open_answer, outcome, unless_shut, write_decided, write_of, written_block}
+use Rattle.model.specs.Calls.{block_left, next_message, open_answer, outcome, unless_shut, write_decided, write_of, written_block}
 use Rattle.model.specs.Meanings.{WriteAnswers}
 use Rattle.model.specs.Sound.{MayAccept}
 use Rattle.model.specs.States.{State, accepting, is_shut, known, may_open}

@@ -1,5 +1,5 @@
 -- What an offer answers and leaves, from what it decided. Assumes nothing.
-use Rattle.std.proofs.Common.{◌≡◌, ℕ, List, length, Ok, Err, Result, sym, refl, ap, ◌∙◌, subst}
+use Rattle.std.proofs.Common.{◌≡◌, ℕ, List, length, Err, Result, sym, refl, ap, ◌∙◌, subst}
 use Rattle.model.specs.Calls.{Outcome, offer_decided, offer_of, outcome, take_decided, take_of}
 use Rattle.model.specs.Meanings.{OfferAnswers}
 use Rattle.model.specs.States.{State, accepting}

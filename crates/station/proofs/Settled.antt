@@ -11,7 +11,7 @@ use Rattle.ties.specs.Ties.{TieMeaning}
 use Rattle.model.specs.Calls.{outcome, release_decided, release_of}
 use Rattle.model.specs.Heads.{board_at, present_set, voter_sets}
 use Rattle.model.specs.Meanings.{ReleaseAnswers}
-use Rattle.model.specs.States.{State, is_shut, known, released, releasing}
+use Rattle.model.specs.States.{is_shut, known, released, releasing}
 use Rattle.model.specs.declared.entry.Entry.{Entry}
 use Rattle.model.proofs.BoardLaws.{board_holds}
 use Rattle.model.proofs.ReleaseAnswers.{release_answers}

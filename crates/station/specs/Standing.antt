@@ -1,5 +1,5 @@
 -- Which state a station stands for, and what its contracts say by it. Assumes nothing.
-use Rattle.std.specs.Prelude.{◌≡◌, ℕ, suc, ◌<◌, ◌≤◌, List, map, length, None, Ok, Err, Option, Result, slice_index_or, slice_set}
+use Rattle.std.specs.Prelude.{◌≡◌, ℕ, suc, ◌<◌, List, map, None, Ok, Err, Option, Result, slice_index_or, slice_set}
 use Rattle.model.specs.Arrays.{wave_messages}
 use Rattle.model.specs.Calls.{Outcome, as_entries, next_wave}
 use Rattle.model.specs.Heads.{head}

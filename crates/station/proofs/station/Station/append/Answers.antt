@@ -1,4 +1,4 @@
-use Rattle.std.proofs.Common.{◌≡◌, ◌+◌, ◌≤◌, ◌++◌, map, length, sym, refl, ap, ◌∙◌, subst, ap₂, arith, rules}
+use Rattle.std.proofs.Common.{◌++◌, map, length, sym, refl, ap, ◌∙◌, subst, arith}
 use Rattle.model.specs.Arrays.{wave_messages}
 use Rattle.model.specs.Calls.{as_entries, next_wave}
 use Rattle.model.specs.Sound.{MayRelease}

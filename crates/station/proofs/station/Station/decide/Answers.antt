@@ -1,4 +1,4 @@
-use Rattle.std.proofs.Common.{◌≡◌, suc, ◌+◌, Some, Ok, sym, ap, ◌∙◌, add-one, rules}
+use Rattle.std.proofs.Common.{suc, ◌+◌, Some, Ok, sym, ap, ◌∙◌, add-one, rules}
 use Rattle.model.specs.Arrays.{heads_by_station}
 use Rattle.model.specs.Calls.{as_entries, next_wave, wave_from}
 use Rattle.model.specs.Heads.{head}

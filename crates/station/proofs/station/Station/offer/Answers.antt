@@ -8,8 +8,8 @@ use Rattle.station.proofs.station.Station.offer.Goals as goal
 
 pub returns-in_err-message : goal.returns-in_err-message
 returns-in_err-message c =
-    let refused = err_from_is_err_and c.from-residual.result c.from-residual.ensures.1 in
-    refused-offer c.args.self.now c.args.block.now c.from-residual.result c.in_err-message.field-0.0
+    let refused = err_from_is_err_and c.from_residual.result c.from_residual.ensures.1 in
+    refused-offer c.args.self.now c.args.block.now c.from_residual.result c.in_err-message.field-0.0
     (refused.1 ∙ ap Err refused.2)
     (ap (take_carried (state_of_station c.args.self.now)) (sym c.in_err-message.ensures))
 

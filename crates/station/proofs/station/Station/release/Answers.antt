@@ -8,9 +8,9 @@ use Rattle.station.proofs.station.Station.release.Goals as goal
 
 pub returns-in_err-wave : goal.returns-in_err-wave
 returns-in_err-wave g c =
-    let refused = err_from_is_err_and c.from-residual.result c.from-residual.ensures.1 in
+    let refused = err_from_is_err_and c.from_residual.result c.from_residual.ensures.1 in
     refused_release c.args.self.now (g.R.Rule.means c.args.rule.now) (g.T.TieOrder.means c.args.order.now)
-    c.from-residual.result c.in_err-wave.field-0.0 (refused.1 ∙ ap Err refused.2) (sym c.in_err-wave.ensures.wave)
+    c.from_residual.result c.in_err-wave.field-0.0 (refused.1 ∙ ap Err refused.2) (sym c.in_err-wave.ensures.wave)
 
 pub returns : goal.returns
 returns g c =

@@ -1,4 +1,4 @@
-use Rattle.std.proofs.Common.{Ok, Err, sym, ap, ◌∙◌, arith}
+use Rattle.std.proofs.Common.{Err, sym, ap, ◌∙◌}
 use Rattle.std.proofs.lemmas.Result.{err_from_is_err_and}
 use Rattle.model.proofs.Decided.{never-taken}
 use Rattle.station.proofs.Drafted.{done_write, filled_is, filling_done, may_write_it, refused_write}
@@ -6,9 +6,9 @@ use Rattle.station.proofs.station.Station.write.Goals as goal
 
 pub returns-in_err-message : goal.returns-in_err-message
 returns-in_err-message c =
-    let refused = err_from_is_err_and c.from-residual.result c.from-residual.ensures.1 in
+    let refused = err_from_is_err_and c.from_residual.result c.from_residual.ensures.1 in
     refused_write c.args.self.now c.args.class c.args.order.now c.args.note.now c.args.block.now
-    c.from-residual.result c.in_err-message.field-0.0 (refused.1 ∙ ap Err refused.2) (sym c.in_err-message.ensures)
+    c.from_residual.result c.in_err-message.field-0.0 (refused.1 ∙ ap Err refused.2) (sym c.in_err-message.ensures)
 
 pub returns-in_err-fill : goal.returns-in_err-fill
 returns-in_err-fill c =

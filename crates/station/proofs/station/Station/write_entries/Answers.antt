@@ -1,4 +1,4 @@
-use Rattle.std.proofs.Common.{◌≡◌, suc, ◌+◌, ◌≤◌, length, take, sym, ap, ◌∙◌, ap₂, add-one, arith, rules}
+use Rattle.std.proofs.Common.{◌≡◌, suc, ◌+◌, ap, ◌∙◌, ap₂, add-one, arith, rules}
 use Rattle.station.specs.Memory.{overwritten}
 use Rattle.station.proofs.Appended.{one_written, places_of, room_small, room_while, same-itself, same_on, wave_room}
 use Rattle.station.proofs.Boarded.{waves_small}

@@ -6,29 +6,19 @@ use Rattle.station.specs.Memory.{counts, holding_entry}
 use Rattle.station.proofs.Appended.{entries_kept, state_kept}
 use Rattle.station.proofs.station.Station.write_entry.Goals as goal
 
-pub invariant-of-self : goal.invariant-of-self
-invariant-of-self c =
+pub invariant_of-self : goal.invariant_of-self
+invariant_of-self c =
     let kept = entries_kept c.args.self.now c.args.place c.args.entry c.requires.beyond in
-    let long = length-set c.args.self.now.roll.now c.args.place (holding_entry c.args.entry) in (
-      c.args.self.now.table_fits,
-      (
-        omega arith,
-        (
-          c.args.self.now.posts_fit,
-          (
-            c.args.self.now.waves_told ∙ ap last_wave (sym kept),
-            (
-              c.args.self.now.accepted_told,
-              (
-                ap (λ entries. counts c.args.self.now.released (on_roll entries)) kept ∙ c.args.self.now.released_told,
-                (
-                  subst (λ state. ∥ Sound state ∥₁) (sym (state_kept c.args.self.now c.args.place c.args.entry c.requires.beyond))
-                      c.args.self.now.sound,
-                  tt,
-                ),
-              ),
-            ),
-          ),
-        ),
-      ),
-    )
+    let long = length-set c.args.self.now.roll.now c.args.place (holding_entry c.args.entry) in
+    record {
+      table_fits = c.args.self.now.table_fits;
+      roll_fits = omega arith;
+      posts_fit = c.args.self.now.posts_fit;
+      waves_told = c.args.self.now.waves_told ∙ ap last_wave (sym kept);
+      accepted_told = c.args.self.now.accepted_told;
+      released_told =
+          ap (λ entries. counts c.args.self.now.released (on_roll entries)) kept ∙ c.args.self.now.released_told;
+      sound =
+          subst (λ state. ∥ Sound state ∥₁) (sym (state_kept c.args.self.now c.args.place c.args.entry c.requires.beyond))
+          c.args.self.now.sound;
+    }
