@@ -1,5 +1,5 @@
 -- The lines of daysheet: numbers in shortest decimal, one space between, a line feed. Assumes nothing.
-use Rattle.std.specs.Prelude.{ℕ, List, [], ◌∷◌, ◌++◌, Some, None, Ok, Err, codes, decimal, Option, Result}
+use Rattle.std.specs.Prelude.{ℕ, List, ◌++◌, Some, None, Ok, Err, codes, decimal, Option, Result}
 use Rattle.wire.specs.declared.fault.Fault.{Fault}
 use Rattle.wire.specs.Faults.{numbered}
 use Rattle.wire.specs.Format.{Contents, reading}

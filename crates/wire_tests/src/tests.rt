@@ -7,23 +7,17 @@ use wire::{BLOCK, Fault, Message, check, fill, label, read, verify};
 // A block that an order or a refusal leaves untouched shows this in every place.
 const OTHER: u8 = 170;
 
-fn fills_to(
-    rt: &impl Abort,
-    n: u8,
-    message: &Message,
-    note: &[u8],
-    expected: &[u8; BLOCK],
-) -> Result<(), Fail> {
+fn fills_to(rt: &impl Abort, n: u8, message: &Message, note: &[u8], expected: &[u8; BLOCK]) {
     let mut block = [OTHER; BLOCK];
     assert_eq!(rt; fill(n, message, note, &mut block), Ok(()));
-    check(block == *expected)
+    assert!(rt; block == *expected);
 }
 
 #[test]
-fn filling_gives_the_blocks(rt: HostRuntime) -> Result<(), Fail> {
-    fills_to(&rt, 3, &booking(), b"HALL", &assembled(&BOOKING))?;
-    fills_to(&rt, 1, &least(), b"", &assembled(&LEAST))?;
-    fills_to(&rt, 16, &greatest(), &[126; 64], &greatest_block())
+fn filling_gives_the_blocks(rt: HostRuntime) {
+    fills_to(&rt, 3, &booking(), b"HALL", &assembled(&BOOKING));
+    fills_to(&rt, 1, &least(), b"", &assembled(&LEAST));
+    fills_to(&rt, 16, &greatest(), &[126; 64], &greatest_block());
 }
 
 #[test]
@@ -47,10 +41,11 @@ fn reads_as(
             assert_eq!(rt; reading.n, n);
             assert_eq!(rt; reading.message.station, message.station);
             assert_eq!(rt; reading.message.number, message.number);
-            check(reading.message.after == message.after)?;
+            assert!(rt; reading.message.after == message.after);
             assert_eq!(rt; reading.message.class, message.class);
-            check(reading.message.order == message.order)?;
-            check(reading.note == note)
+            assert!(rt; reading.message.order == message.order);
+            assert!(rt; reading.note == note);
+            Ok(())
         }
         Err(_) => Err(Fail::new("refused")),
     }
@@ -69,7 +64,7 @@ fn refused(rt: &impl Abort, block: &[u8], expected: Fault) -> Result<(), Fail> {
         Err(fault) => {
             assert_eq!(rt; fault, expected);
             Ok(())
-        },
+        }
     }
 }
 
@@ -156,7 +151,7 @@ fn each_layout_rule_is_kept(rt: HostRuntime) -> Result<(), Fail> {
         (1, 2),
         (1, 16),
     ] {
-        check(read(&relaid(place, byte)).is_ok())?;
+        assert!(rt; read(&relaid(place, byte)).is_ok());
     }
     Ok(())
 }
@@ -175,7 +170,8 @@ fn fill_refused(
         return Err(Fail::new("too long for this test"));
     }
     assert_eq!(rt; fill(n, message, note, &mut block[0..length]), Err(fault));
-    check(block == [OTHER; 1024])
+    assert!(rt; block == [OTHER; 1024]);
+    Ok(())
 }
 
 #[test]
@@ -192,9 +188,12 @@ fn a_refused_filling_changes_nothing(rt: HostRuntime) -> Result<(), Fail> {
     fill_refused(&rt, 3, &booking(), b"\x7f", BLOCK, Fault::Layout)
 }
 
-fn labelled(block: &[u8], sheet: &[u8], expected: &[u8]) -> Result<(), Fail> {
+fn labelled(rt: &impl Abort, block: &[u8], sheet: &[u8], expected: &[u8]) -> Result<(), Fail> {
     match label(block, sheet) {
-        Ok(part) => check(part == expected),
+        Ok(part) => {
+            assert!(rt; part == expected);
+            Ok(())
+        }
         Err(_) => Err(Fail::new("refused")),
     }
 }
@@ -205,7 +204,7 @@ fn label_refused(rt: &impl Abort, block: &[u8], sheet: &[u8], expected: Fault) -
         Err(fault) => {
             assert_eq!(rt; fault, expected);
             Ok(())
-        },
+        }
     }
 }
 
@@ -214,8 +213,8 @@ fn a_label_is_the_note_or_the_name(rt: HostRuntime) -> Result<(), Fail> {
     let names = b"GATE        HALL        OFFICE      ";
     let mut block = [0u8; BLOCK];
     assert_eq!(rt; fill(3, &booking(), b"", &mut block), Ok(()));
-    labelled(&block, names, b"HALL        ")?;
-    labelled(&assembled(&BOOKING), names, b"HALL")?;
+    labelled(&rt, &block, names, b"HALL        ")?;
+    labelled(&rt, &assembled(&BOOKING), names, b"HALL")?;
     label_refused(&rt, &assembled(&BOOKING), b"HALL", Fault::Setting)?;
     label_refused(&rt, &block, b"", Fault::Setting)?;
     label_refused(&rt, &[0; BLOCK], b"", Fault::Layout)?;
@@ -224,9 +223,9 @@ fn a_label_is_the_note_or_the_name(rt: HostRuntime) -> Result<(), Fail> {
 }
 
 #[test]
-fn faults_have_their_numbers(rt: HostRuntime) -> Result<(), Fail> {
+fn faults_have_their_numbers(rt: HostRuntime) {
     assert_eq!(rt; Fault::Length.number(), 1);
     assert_eq!(rt; Fault::Setting.number(), 12);
     assert_eq!(rt; Fault::NoBoard.number(), 13);
-    check(Fault::NothingToPost.word() == "nothing to post")
+    assert!(rt; Fault::NothingToPost.word() == "nothing to post");
 }
