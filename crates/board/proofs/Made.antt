@@ -4,12 +4,14 @@ use Rattle.std.proofs.Common.{◌≡◌, ℕ, ◌+◌, ◌*◌, ◌/◌, ◌%◌
 use mathlib.Core.Bool.{Bool-set}
 use native.Mathlib.Nat.{div-eq_of_lt}
 use Rattle.std.proofs.lemmas.Nat.{shr_split, mod_below}
-use Rattle.std.proofs.lemmas.Bool.{cases_Bool, true≢false, eqb-true, eq-eqb, lt-ltb, and_from}
-use Rattle.std.proofs.lemmas.Bool.Decides.{nat_tests, same_from_decides, Decides-ltb}
+use Rattle.std.specs.Cmp.Lexicographic.{pointwise}
+use Rattle.std.proofs.lemmas.Bool.{cases_Bool, true≢false, eqb-true, eq-eqb, lt-ltb, and_from, and_parts}
+use Rattle.std.proofs.lemmas.Bool.Decides.{nat_tests, same_from_decides, Decides-eqb, Decides-ltb}
+use Rattle.std.proofs.lemmas.Slice.Eq.{slice_eq-Decides}
 use Rattle.wire.specs.declared.fault.Fault.{Fault}
 use Rattle.board.specs.Sets.{has, all, some, count, mask, implies, within, every, any, up_to}
 use Rattle.board.specs.Ballots.{is_group, is_board, votes_for, votes}
-use Rattle.board.specs.Boards.{board_decided, board_of}
+use Rattle.board.specs.Boards.{ComparingDecides, board_decided, board_of, is_same_board}
 use Rattle.board.specs.declared.board.Board.{Board}
 use Rattle.board.proofs.Places.{all-at, all_more, all_same, some-none, some_more, mask-same, count_same}
 use Rattle.board.proofs.Digits.{has-zero, has-mask, mask_is}
@@ -121,15 +123,38 @@ same-board one other e f v =
     (λ g h. told-alike one.n one.present one.voters one.group g one.holds h)))
     other.group other.holds
 
+-- and comparing them says so
+
+pub comparing_decides : ComparingDecides
+comparing_decides board other =
+    (same, λ e. subst (λ (b : Board). is_same_board board b ≡ true) e itself)
+  where
+    same : is_same_board board other ≡ true → board ≡ other
+    same e =
+        let parts = and_parts (eqb board.n other.n) (eqb board.present other.present && pointwise eqb board.voters other.voters) e in
+        let rest = and_parts (eqb board.present other.present) (pointwise eqb board.voters other.voters) parts.1 in
+        same-board board other (eqb-true board.n other.n parts.0) (eqb-true board.present other.present rest.0)
+        ((slice_eq-Decides Decides-eqb board.voters other.voters (pointwise eqb board.voters other.voters) refl).0 rest.1)
+
+    itself : is_same_board board board ≡ true
+    itself =
+        and_from (eqb board.n board.n) (eqb board.present board.present && pointwise eqb board.voters board.voters)
+        (eq-eqb board.n board.n refl)
+        (and_from (eqb board.present board.present) (pointwise eqb board.voters board.voters)
+        (eq-eqb board.present board.present refl)
+        ((slice_eq-Decides Decides-eqb board.voters board.voters (pointwise eqb board.voters board.voters) refl).1 refl))
+
+-- a board is the board of its sets
+
 board_told :
     (board : Board) (group holds : Bool) (g : is_group board.n ≡ group) (h : is_board board.n board.present board.voters ≡ holds)
     → group ≡ true → holds ≡ true
     → board_decided board.n board.present board.voters group holds g h ≡ Ok board
 board_told board true true g h eg eh =
-    ap (λ (b : Board). ◌ok b) (told-alike board.n board.present board.voters g board.group h board.holds)
+    ap (λ (b : Board). as_ok b) (told-alike board.n board.present board.voters g board.group h board.holds)
   where
-    ◌ok : Board → Result Board Fault
-    ◌ok b = Ok b
+    as_ok : Board → Result Board Fault
+    as_ok b = Ok b
 board_told board true false g h eg eh = absurd (true≢false (sym eh))
 board_told board false holds g h eg eh = absurd (true≢false (sym eg))
 

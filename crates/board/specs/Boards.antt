@@ -1,5 +1,5 @@
 -- The words in which rules speak of a board, and when a board extends another. Assumes nothing.
-use Rattle.std.specs.Prelude.{◌≡◌, ℕ, Bool, true, false, not, ◌&&◌, List, Ok, Err, Result, ◌==◌, nat_lt, refl}
+use Rattle.std.specs.Prelude.{◌≡◌, ℕ, Bool, true, false, not, ◌&&◌, List, Ok, Err, Result, Decides, ◌==◌, nat_lt, refl}
 use Rattle.std.specs.Ordering.{eq_of_both, on}
 use Rattle.std.specs.Cmp.Lexicographic.{pointwise}
 use Rattle.wire.specs.declared.fault.Fault.{Fault}
@@ -64,6 +64,10 @@ abbrev pub is_same_board : Board → Board → Bool
 is_same_board =
     eq_of_both (on (λ board. board.n) ◌==◌)
     (eq_of_both (on (λ board. board.present) ◌==◌) (on (λ board. board.voters) (pointwise ◌==◌)))
+
+-- comparing two boards decides whether they are the same board
+abbrev pub ComparingDecides : Type 0
+ComparingDecides = (board other : Board) → Decides (is_same_board board other) (board ≡ other)
 
 -- a station that is present on the second board and not on the first
 abbrev pub newly_present : Board → Board → ℕ → Bool

@@ -5,14 +5,14 @@ use Rattle.books.specs.declared.cabin.CabinReply.{CabinReply}
 use Rattle.books.specs.declared.cabin.CabinReply.TheVariants as reply
 use Rattle.books.specs.declared.cabin.Slot.{Slot}
 use Rattle.books.specs.declared.cabin.Slot.TheVariants.{Free, Booked, Assigned, Ridden}
-use Rattle.books.specs.Books.{Only-alters}
+use Rattle.books.specs.Books.{OnlyAlters}
 use Rattle.books.specs.Cabin.{at_home, cabin, cabin_readable, cabin_step, day, departure, on_slot, party, seats, seats_of, slot_at, with_cabin, with_slot}
 use Rattle.books.specs.Cabin as of-cabin
 
 -- an outcome that is done, or leaves what was held
-module _ {Reply Held : Type 0} (Is-done : Reply → Type 0) (held : Held) where
+module _ {Reply Held : Type 0} (IsDone : Reply → Type 0) (held : Held) where
   abbrev Keeps : Reply × Held → Type 0
-  Keeps outcome = (Is-done outcome.0 → ⊥) → outcome.1 ≡ held
+  Keeps outcome = (IsDone outcome.0 → ⊥) → outcome.1 ≡ held
 
   either : (test : Bool) (x y : Reply × Held) → Keeps x → Keeps y → Keeps (cond test x y)
   either true x y k l = k
@@ -44,7 +44,7 @@ cabin-kept_on book order (Assigned holder wanted given) =
     (λ h. refl)
 cabin-kept_on book order Ridden = λ h. refl
 
-pub cabin-kept : Only-alters (λ r. r ≡ reply.Done) cabin_step
+pub cabin-kept : OnlyAlters (λ r. r ≡ reply.Done) cabin_step
 cabin-kept book order =
     either cabin-done book (cabin_readable book order) (on_slot book order (slot_at book (day order) (departure order))) (reply.Unreadable, book)
     (cabin-kept_on book order (slot_at book (day order) (departure order))) (λ h. refl)

@@ -13,6 +13,6 @@ module _ {Held Reply : Type 0} where
   replies step held (order ∷ orders) = (step held order).0 ∷ replies step (step held order).1 orders
 
   -- only one reply alters what is held
-  abbrev pub Only-alters : (Reply → Type 0) → (Held → List ℕ → Reply × Held) → Type 0
-  Only-alters Done step =
+  abbrev pub OnlyAlters : (Reply → Type 0) → (Held → List ℕ → Reply × Held) → Type 0
+  OnlyAlters Done step =
       (held : Held) (order : List ℕ) → (Done (step held order).0 → ⊥) → (step held order).1 ≡ held

@@ -3,7 +3,7 @@ ghost use Rattle.std.specs.Prelude.{◌≡◌, ℕ, true, List, slice_index};
 ghost use Rattle.wire.specs.Words.{two_bytes};
 ghost use Rattle.books.specs.declared.cabin.CabinBook.{CabinBook};
 ghost use Rattle.books.specs.declared.cabin.CabinReply.TheVariants.{Done};
-ghost use Rattle.books.specs.Books.{Only-alters};
+ghost use Rattle.books.specs.Books.{OnlyAlters};
 ghost use Rattle.books.specs.Cabin.{at_start, cabin_readable, cabin_step, cabin_top, home_told, most, named_well, on_slot, slot_at, slot_told};
 
 use crate::book::{Book, ORDER};
@@ -77,7 +77,7 @@ impl Book for CabinBook {
     fn post(&mut self, order: &[u8; ORDER]) -> CabinReply
         ensures reply { result ≡ (cabin_step self.old order.now).0 }
         ensures next { self.new ≡ (cabin_step self.old order.now).1 }
-        ensures only_done_alters { Only-alters (λ reply. reply ≡ Done) cabin_step }
+        ensures only_done_alters { OnlyAlters (λ reply. reply ≡ Done) cabin_step }
     {
         if !self.is_readable(order) {
             return CabinReply::Unreadable;

@@ -17,9 +17,9 @@ told (Some below) sources e = (below, refl, cc)
 
 module _ (below : RuleMeaning) (lawful : Lawful below) where
   candidates : SourcesAreCandidates (lone_source below)
-  candidates board sources place e has-it =
+  candidates board sources place e has_it =
       let parts = told (below.answer board) sources e in
-      let inside = ap (λ s. has s place) parts.2 ∙ has-it in
+      let inside = ap (λ s. has s place) parts.2 ∙ has_it in
       let at = has-below 16 (mask (leads_set parts.0) 16) place (mask_below (leads_set parts.0) 16) inside in
       lawful.sources_are_candidates board parts.0 place parts.1
       (and_parts (has parts.0 place) (not (some (has parts.0) place))

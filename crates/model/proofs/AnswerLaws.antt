@@ -424,8 +424,8 @@ module _ (state : State) (block : List ℕ) where
 -- Show.
 
 module _ (state : State) where
-  abbrev shown-answer : Bool → Option Entry → Result Entry Fault
-  shown-answer shut found =
+  abbrev shown_answer : Bool → Option Entry → Result Entry Fault
+  shown_answer shut found =
       (outcome state (cond shut (Err Setting) (shown_entry found)) (λ entry. entry) (λ _. state)).answer
 
   -- a place that has no entry
@@ -447,7 +447,7 @@ module _ (state : State) where
 
   showing_answers :
       (place : ℕ) (shut : Bool) → is_shut state ≡ shut → (found : Option Entry) → entry_at state.roll place ≡ found
-      → ShowAnswers state place (shown-answer shut found)
+      → ShowAnswers state place (shown_answer shut found)
   showing_answers place true shut found is =
       record {
         setting = comes refl shut;

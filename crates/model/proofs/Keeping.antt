@@ -78,8 +78,8 @@ module _
       inside (suc before) e below =
           let none = some_not (lacks (accepted_as ms) m) 16 place timely below in
           let there = some_not (λ k. not (is_some (accepted_as ms (suc place) (suc k)))) (count_of m (suc place)) before none (omega arith) in
-          let Known-is = not-false (is_some (accepted_as ms (suc place) (suc before))) there in
-          let bounds = (kept.gapless (suc place) (suc before)).0 Known-is in
+          let known_is = not-false (is_some (accepted_as ms (suc place) (suc before))) there in
+          let bounds = (kept.gapless (suc place) (suc before)).0 known_is in
           omega (arith, bounds.1)
 
       above : 16 ≤ place → count_of m (suc place) ≤ tally ms (suc place)

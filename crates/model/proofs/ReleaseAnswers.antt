@@ -17,8 +17,8 @@ module _ (state : State) (rule : RuleMeaning) (order : TieMeaning) where
   abbrev told : Result (List Entry) Fault → Result ℕ Fault
   told decided = (outcome state decided length (releasing state)).answer
 
-  abbrev board-result : Result Board Fault
-  board-result = board_at state.settings.n (known state) (released state)
+  abbrev board_result : Result Board Fault
+  board_result = board_at state.settings.n (known state) (released state)
 
   -- refused as a setting
   setting_answers :
@@ -86,10 +86,10 @@ module _ (state : State) (rule : RuleMeaning) (order : TieMeaning) where
             ap Ok (sym (is ∙ ap (λ s. length (wave_from state order s)) one))
 
   released_answers :
-      ((is_shut state ≡ false) → (board : Board) × (board-result ≡ Ok board)) → (shut r o : Bool) → is_shut state ≡ shut
+      ((is_shut state ≡ false) → (board : Board) × (board_result ≡ Ok board)) → (shut r o : Bool) → is_shut state ≡ shut
       → eqb rule.n state.settings.n ≡ r → eqb order.n state.settings.n ≡ o
       → ReleaseAnswers state rule order
-      (told (cond shut (Err Setting) (cond (r && o) (shown_board state rule order board-result) (Err Setting))))
+      (told (cond shut (Err Setting) (cond (r && o) (shown_board state rule order board_result) (Err Setting))))
   released_answers there true r o shut rn on = setting_answers (inl shut)
   released_answers there false false o live rn on = setting_answers (inr (inl (eqb-false rule.n state.settings.n rn)))
   released_answers there false true false live rn on = setting_answers (inr (inr (eqb-false order.n state.settings.n on)))

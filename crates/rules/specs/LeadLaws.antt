@@ -29,9 +29,9 @@ answers n station board same there =
     ∙ ap (λ b. cond b (Some (set_of (chosen_by board (station - 1)))) None) there
 
 candidates : (n station : ℕ) → SourcesAreCandidates (lead_station n station)
-candidates n station board sources place e has-it =
+candidates n station board sources place e has_it =
     let parts = told n station board sources e in
-    let inside = ap (λ s. has s place) parts.2 ∙ has-it in
+    let inside = ap (λ s. has s place) parts.2 ∙ has_it in
     let below = has-below 16 (mask (chosen_by board (station - 1)) 16) place (mask_below (chosen_by board (station - 1)) 16) inside in
     (and_parts (candidate board place) (votes_at board (station - 1) place)
     (sym (has-mask (chosen_by board (station - 1)) 16 place below) ∙ inside)).0

@@ -28,9 +28,9 @@ answers n board same all =
     ∙ ap (λ b. cond b (Some (set_of (candidate board))) None) all
 
 candidates : (n : ℕ) → SourcesAreCandidates (roll_call n)
-candidates n board sources place e has-it =
+candidates n board sources place e has_it =
     let parts = told n board sources e in
-    let inside = ap (λ s. has s place) parts.2 ∙ has-it in
+    let inside = ap (λ s. has s place) parts.2 ∙ has_it in
     let below = has-below 16 (mask (candidate board) 16) place (mask_below (candidate board) 16) inside in
     sym (has-mask (candidate board) 16 place below) ∙ inside
 

@@ -219,8 +219,8 @@ module _ (phi : ℕ) (board wider : Board) (extends : Extends board wider) (s : 
       absurd (⊎_elim
       (λ stands.
       let unled = some_not (λ other. candidate board other && nat_lt phi (lead board other place + absent board)) 16 found.0 before found.1 in
-      let led-here : ltb phi (lead board found.0 place + absent board) ≡ true = lt-ltb phi (lead board found.0 place + absent board) (omega (arith, over, grown)) in
-      true≢false (sym (and_from (candidate board found.0) (nat_lt phi (lead board found.0 place + absent board)) stands led-here) ∙ unled))
+      let led_here : ltb phi (lead board found.0 place + absent board) ≡ true = lt-ltb phi (lead board found.0 place + absent board) (omega (arith, over, grown)) in
+      true≢false (sym (and_from (candidate board found.0) (nat_lt phi (lead board found.0 place + absent board)) stands led_here) ∙ unled))
       (λ none. let nothing = no_lead board found.0 place none in omega (arith, over, grown, nothing, few))
       (cases_Bool (candidate board found.0))))
       (λ e. e) (cases_Bool (may_be_led phi wider place))
@@ -332,10 +332,10 @@ module _ (phi : ℕ) (below : RuleMeaning) (lawful : Lawful below) where
       ∙ ap (λ b. cond b (Some (set_of (source phi board))) None) e
 
   candidates : SourcesAreCandidates (threshold phi below)
-  candidates board sources place e has-it =
-      ⊎_elim (λ asked. lawful.sources_are_candidates board sources place asked.1 has-it)
+  candidates board sources place e has_it =
+      ⊎_elim (λ asked. lawful.sources_are_candidates board sources place asked.1 has_it)
       (λ own.
-      let inside = ap (λ s. has s place) own.2 ∙ has-it in
+      let inside = ap (λ s. has s place) own.2 ∙ has_it in
       let at = has-below 16 (mask (source phi board) 16) place (mask_below (source phi board) 16) inside in
       (and_parts (candidate board place) (passes phi board place || not (may_be_led phi board place))
       (sym (has-mask (source phi board) 16 place at) ∙ inside)).0)

@@ -42,8 +42,8 @@ unfolding after
 moment_more run calls call = after-append run.step (beginning run) calls (call ∷ [])
 
 -- the roll at a moment of a run
-abbrev pub roll-at : {Held Reply : Type 0} → Run Held Reply → List Call → List Entry
-roll-at run calls = (state_at run calls).roll
+abbrev pub roll_at : {Held Reply : Type 0} → Run Held Reply → List Call → List Entry
+roll_at run calls = (state_at run calls).roll
 
 -- What a call does to the roll.
 
@@ -136,8 +136,8 @@ call-roll step at (show place) sound =
 
 pub roll-more :
     {Held Reply : Type 0} (run : Run Held Reply) (calls : List Call) (call : Call)
-    → (roll-at run (calls ++ call ∷ []) ≡ roll-at run calls)
-    ⊎ Settling (state_at run calls) (roll-at run (calls ++ call ∷ [])) call
+    → (roll_at run (calls ++ call ∷ []) ≡ roll_at run calls)
+    ⊎ Settling (state_at run calls) (roll_at run (calls ++ call ∷ [])) call
 roll-more run calls call =
     let next = ap (λ (m : Moment _ _). m.state.roll) (moment_more run calls call) in
     ⊎_elim (λ same. inl (next ∙ same))
@@ -181,37 +181,37 @@ module _ {Held Reply : Type 0} (run : Run Held Reply) where
   -- a call puts no wave on the roll, or one
   pub waves_more :
       (calls : List Call) (call : Call)
-      → (roll-at run (calls ++ call ∷ []) ≡ roll-at run calls)
-      ⊎ (last_wave (roll-at run (calls ++ call ∷ [])) ≡ suc (last_wave (roll-at run calls)))
+      → (roll_at run (calls ++ call ∷ []) ≡ roll_at run calls)
+      ⊎ (last_wave (roll_at run (calls ++ call ∷ [])) ≡ suc (last_wave (roll_at run calls)))
   waves_more calls call =
       ⊎_elim (λ same. inl same)
       (λ settling.
-      inr (next_wave-is (state_at run calls) (roll-at run (calls ++ call ∷ [])) call (sound-at run calls) settling))
+      inr (next_wave-is (state_at run calls) (roll_at run (calls ++ call ∷ [])) call (sound-at run calls) settling))
       (roll-more run calls call)
 
   -- before the first wave nothing is on the roll
-  no_waves : (calls : List Call) → last_wave (roll-at run calls) ≡ 0 → roll-at run calls ≡ []
+  no_waves : (calls : List Call) → last_wave (roll_at run calls) ≡ 0 → roll_at run calls ≡ []
   unfolding after
   no_waves =
-      from_end (λ calls. last_wave (roll-at run calls) ≡ 0 → roll-at run calls ≡ []) (λ e. refl)
+      from_end (λ calls. last_wave (roll_at run calls) ≡ 0 → roll_at run calls ≡ []) (λ e. refl)
       (λ calls call below e.
       ⊎_elim (λ same. same ∙ below (sym (ap last_wave same) ∙ e))
       (λ more. absurd (omega (arith, more, e)))
       (waves_more calls call))
 
   -- the last call that put a wave on the roll, after so many waves
-  pub record Last-settled (calls : List Call) (count : ℕ) : Type 0 where
+  pub record LastSettled (calls : List Call) (count : ℕ) : Type 0 where
     pub before : List Call
     pub call : Call
     pub later : List Call
     pub there : calls ≡ before ++ call ∷ later
-    pub count_was : last_wave (roll-at run before) ≡ count
-    pub settling : Settling (state_at run before) (roll-at run calls) call
+    pub count_was : last_wave (roll_at run before) ≡ count
+    pub settling : Settling (state_at run before) (roll_at run calls) call
 
-  pub last_settled : (calls : List Call) (count : ℕ) → last_wave (roll-at run calls) ≡ suc count → Last-settled calls count
+  pub last_settled : (calls : List Call) (count : ℕ) → last_wave (roll_at run calls) ≡ suc count → LastSettled calls count
   unfolding after
   last_settled =
-      from_end (λ calls. (count : ℕ) → last_wave (roll-at run calls) ≡ suc count → Last-settled calls count)
+      from_end (λ calls. (count : ℕ) → last_wave (roll_at run calls) ≡ suc count → LastSettled calls count)
       (λ count e. absurd (omega (arith, e)))
       (λ calls call below count e.
       ⊎_elim (λ same. still calls call count same (below count (sym (ap last_wave same) ∙ e)))
@@ -227,8 +227,8 @@ module _ {Held Reply : Type 0} (run : Run Held Reply) where
       (roll-more run calls call))
     where
       still :
-          (calls : List Call) (call : Call) (count : ℕ) → roll-at run (calls ++ call ∷ []) ≡ roll-at run calls
-          → Last-settled calls count → Last-settled (calls ++ call ∷ []) count
+          (calls : List Call) (call : Call) (count : ℕ) → roll_at run (calls ++ call ∷ []) ≡ roll_at run calls
+          → LastSettled calls count → LastSettled (calls ++ call ∷ []) count
       still calls call count same found =
           record {
             before = found.before;
@@ -245,11 +245,11 @@ module _ {Held Reply : Type 0} (run : Run Held Reply) where
 
       was :
           (calls : List Call) (call : Call) (count : ℕ)
-          → Settling (state_at run calls) (roll-at run (calls ++ call ∷ [])) call
-          → last_wave (roll-at run (calls ++ call ∷ [])) ≡ suc count → last_wave (roll-at run calls) ≡ count
+          → Settling (state_at run calls) (roll_at run (calls ++ call ∷ [])) call
+          → last_wave (roll_at run (calls ++ call ∷ [])) ≡ suc count → last_wave (roll_at run calls) ≡ count
       was calls call count settling e =
           let next =
-          next_wave-is (state_at run calls) (roll-at run (calls ++ call ∷ [])) call (sound-at run calls) settling in
+          next_wave-is (state_at run calls) (roll_at run (calls ++ call ∷ [])) call (sound-at run calls) settling in
           omega (arith, next, e)
 
   -- Earlier moments.
@@ -259,38 +259,38 @@ module _ {Held Reply : Type 0} (run : Run Held Reply) where
     pub first : List Call
     pub later : List Call
     pub there : calls ≡ first ++ later
-    pub count_is : last_wave (roll-at run first) ≡ count
-    pub begins : Begins (roll-at run first) (roll-at run calls)
+    pub count_is : last_wave (roll_at run first) ≡ count
+    pub begins : Begins (roll_at run first) (roll_at run calls)
 
-  begins_more : (calls : List Call) (call : Call) → Begins (roll-at run calls) (roll-at run (calls ++ call ∷ []))
+  begins_more : (calls : List Call) (call : Call) → Begins (roll_at run calls) (roll_at run (calls ++ call ∷ []))
   begins_more calls call =
-      ⊎_elim (λ same. ([], same ∙ sym (append-nil (roll-at run calls))))
+      ⊎_elim (λ same. ([], same ∙ sym (append-nil (roll_at run calls))))
       (λ settling. (wave_from (state_at run calls) settling.order settling.sources, settling.roll_is))
       (roll-more run calls call)
 
-  pub earlier : (calls : List Call) (count : ℕ) → count ≤ last_wave (roll-at run calls) → Earlier calls count
+  pub earlier : (calls : List Call) (count : ℕ) → count ≤ last_wave (roll_at run calls) → Earlier calls count
   unfolding after
   earlier =
-      from_end (λ calls. (count : ℕ) → count ≤ last_wave (roll-at run calls) → Earlier calls count)
+      from_end (λ calls. (count : ℕ) → count ≤ last_wave (roll_at run calls) → Earlier calls count)
       (λ count few. itself [] count (omega (arith, few)))
       (λ calls call below count few.
       ⊎_elim (λ same. itself (calls ++ call ∷ []) count same)
       (λ less. further calls call count (below count (fewer calls call count few less)))
-      (cases_eq count (last_wave (roll-at run (calls ++ call ∷ [])))))
+      (cases_eq count (last_wave (roll_at run (calls ++ call ∷ [])))))
     where
-      itself : (calls : List Call) (count : ℕ) → count ≡ last_wave (roll-at run calls) → Earlier calls count
+      itself : (calls : List Call) (count : ℕ) → count ≡ last_wave (roll_at run calls) → Earlier calls count
       itself calls count same =
           record {
             first = calls;
             later = [];
             there = sym (append-nil calls);
             count_is = sym same;
-            begins = ([], sym (append-nil (roll-at run calls)));
+            begins = ([], sym (append-nil (roll_at run calls)));
           }
 
       fewer :
-          (calls : List Call) (call : Call) (count : ℕ) → count ≤ last_wave (roll-at run (calls ++ call ∷ []))
-          → (count ≡ last_wave (roll-at run (calls ++ call ∷ [])) → ⊥) → count ≤ last_wave (roll-at run calls)
+          (calls : List Call) (call : Call) (count : ℕ) → count ≤ last_wave (roll_at run (calls ++ call ∷ []))
+          → (count ≡ last_wave (roll_at run (calls ++ call ∷ [])) → ⊥) → count ≤ last_wave (roll_at run calls)
       fewer calls call count few less =
           ⊎_elim (λ same. let now = ap last_wave same in omega (arith, now, few)) (λ more. omega (arith, more, few, less))
           (waves_more calls call)
@@ -308,7 +308,7 @@ module _ {Held Reply : Type 0} (run : Run Held Reply) where
             begins = (
               found.begins.0 ++ more.0,
               more.1 ∙ ap (λ (r : List Entry). r ++ more.0) found.begins.1
-                  ∙ append_assoc (roll-at run found.first) found.begins.0 more.0,
+                  ∙ append_assoc (roll_at run found.first) found.begins.0 more.0,
             );
           }
 
@@ -377,7 +377,7 @@ module _ {Held Reply : Type 0} (run other : Run Held Reply) (group : OneGroup ru
       (before later before' later' : List Call) (call call' : Call) (roll roll' : List Entry)
       → run.calls ≡ before ++ call ∷ later → other.calls ≡ before' ++ call' ∷ later'
       → Settling (state_at run before) roll call → Settling (state_at other before') roll' call'
-      → roll-at run before ≡ roll-at other before' → roll ≡ roll'
+      → roll_at run before ≡ roll_at other before' → roll ≡ roll'
   settled_alike before later before' later' call call' roll roll' there there' settling settling' same =
       let ours = given run before call later roll there settling in
       let theirs = given other before' call' later' roll' there' settling' in
@@ -400,8 +400,8 @@ module _ {Held Reply : Type 0} (run other : Run Held Reply) (group : OneGroup ru
   -- at moments with equally many waves the rolls are equal
   pub same_rolls :
       (count : ℕ) (calls later calls' later' : List Call) → run.calls ≡ calls ++ later → other.calls ≡ calls' ++ later'
-      → last_wave (roll-at run calls) ≡ count → last_wave (roll-at other calls') ≡ count
-      → roll-at run calls ≡ roll-at other calls'
+      → last_wave (roll_at run calls) ≡ count → last_wave (roll_at other calls') ≡ count
+      → roll_at run calls ≡ roll_at other calls'
   same_rolls zero calls later calls' later' there there' e e' = no_waves run calls e ∙ sym (no_waves other calls' e')
   same_rolls (suc count) calls later calls' later' there there' e e' =
       let last = last_settled run calls count e in
@@ -410,20 +410,20 @@ module _ {Held Reply : Type 0} (run other : Run Held Reply) (group : OneGroup ru
       let all' =
       further_on other.calls calls' later' last'.before last'.call last'.later there' last'.there in
       settled_alike last.before (last.later ++ later) last'.before (last'.later ++ later') last.call last'.call
-      (roll-at run calls) (roll-at other calls') all all' last.settling last'.settling
+      (roll_at run calls) (roll_at other calls') all all' last.settling last'.settling
       (same_rolls count last.before (last.call ∷ (last.later ++ later))
       last'.before (last'.call ∷ (last'.later ++ later')) all all' last.count_was last'.count_was)
 
   -- the roll with fewer waves is a beginning of the other
   pub fewer_waves :
       (calls later calls' later' : List Call) → run.calls ≡ calls ++ later → other.calls ≡ calls' ++ later'
-      → last_wave (roll-at run calls) ≤ last_wave (roll-at other calls') → Begins (roll-at run calls) (roll-at other calls')
+      → last_wave (roll_at run calls) ≤ last_wave (roll_at other calls') → Begins (roll_at run calls) (roll_at other calls')
   fewer_waves calls later calls' later' there there' few =
-      let found = earlier other calls' (last_wave (roll-at run calls)) few in
+      let found = earlier other calls' (last_wave (roll_at run calls)) few in
       let all =
       there' ∙ ap (λ (c : List Call). c ++ later') found.there ∙ append_assoc found.first found.later later' in
       let same =
-      same_rolls (last_wave (roll-at run calls)) calls later found.first (found.later ++ later') there all refl
+      same_rolls (last_wave (roll_at run calls)) calls later found.first (found.later ++ later') there all refl
       found.count_is in
       (found.begins.0, found.begins.1 ∙ ap (λ (r : List Entry). r ++ found.begins.0) (sym same))
 
@@ -515,7 +515,7 @@ rolls_in_step run other group calls later calls' later' there there' entries ent
     (is-roll-told (state_at run calls) entries is) (is-roll-told (state_at other calls') entries' is')
   where
     by_test :
-        (shut shut' : Bool) → entries ≡ cond shut [] (roll-at run calls) → entries' ≡ cond shut' [] (roll-at other calls')
+        (shut shut' : Bool) → entries ≡ cond shut [] (roll_at run calls) → entries' ≡ cond shut' [] (roll_at other calls')
         → Begins entries entries' ⊎ Begins entries' entries
     by_test true shut' e e' = inl (entries', ap (λ (l : List Entry). l ++ entries') (sym e))
     by_test false true e e' = inr (entries, ap (λ (l : List Entry). l ++ entries) (sym e'))
@@ -527,4 +527,4 @@ rolls_in_step run other group calls later calls' later' there there' entries ent
         (λ many.
         inr (subst₂ Begins (sym e') (sym e)
         (fewer_waves other run (turned run other group) calls' later' calls later there' there many)))
-        (cases_lt (last_wave (roll-at run calls)) (last_wave (roll-at other calls')))
+        (cases_lt (last_wave (roll_at run calls)) (last_wave (roll_at other calls')))

@@ -103,28 +103,28 @@ left_by Holds state (Err fault) tell leave before each = before
 
 module _ {Held Reply : Type 0} (step : Step Held Reply) where
   -- a moment with another state
-  abbrev with-state : Moment Held Reply → State → Moment Held Reply
-  with-state at state = record { state = state; held = at.held; replies = at.replies }
+  abbrev with_state : Moment Held Reply → State → Moment Held Reply
+  with_state at state = record { state = state; held = at.held; replies = at.replies }
 
   -- what holds of how many posts a call makes and of the moment that it leaves: only a post makes one
   each_call :
       (Holds : ℕ → Moment Held Reply → Type 0) (at : Moment Held Reply)
-      → Holds 0 at → ((message : Message) → Holds 0 (with-state at (accepting at.state message)))
-      → ((wave : List Entry) → Holds 0 (with-state at (releasing at.state wave)))
+      → Holds 0 at → ((message : Message) → Holds 0 (with_state at (accepting at.state message)))
+      → ((wave : List Entry) → Holds 0 (with_state at (releasing at.state wave)))
       → Holds (post_count step at post) (call_next step at post)
       → (call : Call) → Holds (post_count step at call) (call_next step at call)
   each_call Holds at same accepted settled posted (write class order note block) =
-      left_by (λ state. Holds 0 (with-state at state)) at.state (write_decided at.state class order note block)
+      left_by (λ state. Holds 0 (with_state at state)) at.state (write_decided at.state class order note block)
       (λ _. tt) (accepting at.state) same accepted
   each_call Holds at same accepted settled posted (offer block) =
-      left_by (λ state. Holds 0 (with-state at state)) at.state (offer_decided at.state block)
+      left_by (λ state. Holds 0 (with_state at state)) at.state (offer_decided at.state block)
       (λ _. tt) (accepting at.state) same accepted
   each_call Holds at same accepted settled posted (release rule lawful order orderly) =
-      left_by (λ state. Holds 0 (with-state at state)) at.state (release_decided at.state rule order)
+      left_by (λ state. Holds 0 (with_state at state)) at.state (release_decided at.state rule order)
       length (releasing at.state) same settled
   each_call Holds at same accepted settled posted post = posted
   each_call Holds at same accepted settled posted (show place) =
-      left_by (λ state. Holds 0 (with-state at state)) at.state (show_decided at.state place)
+      left_by (λ state. Holds 0 (with_state at state)) at.state (show_decided at.state place)
       (λ entry. entry) (λ _. at.state) same (λ _. same)
 
 roll-next :

@@ -21,7 +21,7 @@ use Rattle.model.proofs.Views.{Agree, Within, board-extended, sets_of}
 use Rattle.runs.specs.Groups.{OneGroup, SameRule}
 use Rattle.runs.specs.Promise.{EqualWhenQuiet}
 use Rattle.runs.specs.Runs.{Call, HasAccepted, IsQuiet, Run, WasGiven, accepted_in, beginning, moment, state_at, release}
-use Rattle.runs.proofs.InStep.{Settling, earlier, from_end, further_on, given, heard_at, heard_later, is-roll-told, last_settled, alike_at, roll-at, roll-more, same_rolls, size_at, turned}
+use Rattle.runs.proofs.InStep.{Settling, earlier, from_end, further_on, given, heard_at, heard_later, is-roll-told, last_settled, alike_at, roll_at, roll-more, same_rolls, size_at, turned}
 use Rattle.runs.proofs.Reached.{Asked, Settled, accepted-append, accepted-told, asked, settings-kept, sound-at}
 use Rattle.runs.proofs.SameWaves.{agree-from}
 
@@ -86,8 +86,8 @@ module _
   abbrev before : List Call
   before = quiet.before
 
-  abbrev last-release : Call
-  last-release = release quiet.rule quiet.lawful quiet.order quiet.orderly
+  abbrev last_release : Call
+  last_release = release quiet.rule quiet.lawful quiet.order quiet.orderly
 
   counts : (release_of (state_at run before) quiet.rule quiet.order).answer ≡ Err Setting → ⊥
   counts refused =
@@ -110,8 +110,8 @@ module _
           let nothing = quiet.nothing_ready in
           absurd (let never : ◌≡◌ {A = ℕ} 0 1 = cc in omega arith)
 
-  in-run : run.calls ≡ before ++ last-release ∷ (quiet.later ++ later)
-  in-run = further_on run.calls calls later before last-release quiet.later there quiet.there
+  in-run : run.calls ≡ before ++ last_release ∷ (quiet.later ++ later)
+  in-run = further_on run.calls calls later before last_release quiet.later there quiet.there
 
   was_given : WasGiven run quiet.rule quiet.order
   was_given =
@@ -125,35 +125,35 @@ module _
       }
 
   release_accepts :
-      accepted_in run.step (beginning run) (before ++ last-release ∷ []) ≡ accepted_in run.step (beginning run) before
+      accepted_in run.step (beginning run) (before ++ last_release ∷ []) ≡ accepted_in run.step (beginning run) before
   unfolding accepted_in
   release_accepts =
-      accepted-append run.step (beginning run) before (last-release ∷ [])
+      accepted-append run.step (beginning run) before (last_release ∷ [])
       ∙ append-nil (accepted_in run.step (beginning run) before)
 
   -- no more is accepted since
   accepted_since :
       (more rest : List Call) → quiet.later ≡ more ++ rest
-      → (state_at run (before ++ last-release ∷ more)).accepted ≡ (state_at run before).accepted
+      → (state_at run (before ++ last_release ∷ more)).accepted ≡ (state_at run before).accepted
   accepted_since more rest within =
-      sym (accepted-told run (before ++ last-release ∷ more))
-      ∙ ap (accepted_in run.step (beginning run)) (sym (append_assoc before (last-release ∷ []) more))
-      ∙ accepted-append run.step (beginning run) (before ++ last-release ∷ []) more
+      sym (accepted-told run (before ++ last_release ∷ more))
+      ∙ ap (accepted_in run.step (beginning run)) (sym (append_assoc before (last_release ∷ []) more))
+      ∙ accepted-append run.step (beginning run) (before ++ last_release ∷ []) more
       ∙ ap₂ (λ (a b : List Message). a ++ b) release_accepts since
       ∙ append-nil (accepted_in run.step (beginning run) before)
       ∙ accepted-told run before
     where
-      since : accepted_in run.step (moment run (before ++ last-release ∷ [])) more ≡ []
+      since : accepted_in run.step (moment run (before ++ last_release ∷ [])) more ≡ []
       since =
-          nothing-first (accepted_in run.step (moment run (before ++ last-release ∷ [])) more) _
-          (sym (accepted-append run.step (moment run (before ++ last-release ∷ [])) more rest)
-          ∙ sym (ap (accepted_in run.step (moment run (before ++ last-release ∷ []))) within)
+          nothing-first (accepted_in run.step (moment run (before ++ last_release ∷ [])) more) _
+          (sym (accepted-append run.step (moment run (before ++ last_release ∷ [])) more rest)
+          ∙ sym (ap (accepted_in run.step (moment run (before ++ last_release ∷ []))) within)
           ∙ quiet.none_since)
 
   -- with the same messages and the same roll no release settles
   no_settling :
       (at : List Call) (call : Call) (rest : List Call) (roll : List Entry) → run.calls ≡ at ++ call ∷ rest
-      → (state_at run at).accepted ≡ (state_at run before).accepted → roll-at run at ≡ roll-at run before
+      → (state_at run at).accepted ≡ (state_at run before).accepted → roll_at run at ≡ roll_at run before
       → Settling (state_at run at) roll call → ⊥
   no_settling at call rest roll within same-accepted same-roll settling =
       open_and_settled (state_at run at) (state_at run before) settling.rule quiet.rule
@@ -169,42 +169,42 @@ module _
   -- so the roll stays as it is
   roll_since :
       (more rest : List Call) → quiet.later ≡ more ++ rest
-      → roll-at run (before ++ last-release ∷ more) ≡ roll-at run before
+      → roll_at run (before ++ last_release ∷ more) ≡ roll_at run before
   roll_since =
       from_end (λ more. (rest : List Call) → quiet.later ≡ more ++ rest
-      → roll-at run (before ++ last-release ∷ more) ≡ roll-at run before)
-      (λ rest within. stays before last-release (quiet.later ++ later) in-run refl refl)
+      → roll_at run (before ++ last_release ∷ more) ≡ roll_at run before)
+      (λ rest within. stays before last_release (quiet.later ++ later) in-run refl refl)
       (λ more call below rest within.
       let shorter : quiet.later ≡ more ++ (call ∷ rest) = within ∙ append_assoc more (call ∷ []) rest in
-      ap (roll-at run) (sym (append_assoc before (last-release ∷ more) (call ∷ [])))
-      ∙ stays (before ++ last-release ∷ more) call (rest ++ later) (all more call rest shorter)
+      ap (roll_at run) (sym (append_assoc before (last_release ∷ more) (call ∷ [])))
+      ∙ stays (before ++ last_release ∷ more) call (rest ++ later) (all more call rest shorter)
       (accepted_since more (call ∷ rest) shorter) (below (call ∷ rest) shorter))
     where
       stays :
           (at : List Call) (call : Call) (rest : List Call) → run.calls ≡ at ++ call ∷ rest
-          → (state_at run at).accepted ≡ (state_at run before).accepted → roll-at run at ≡ roll-at run before
-          → roll-at run (at ++ call ∷ []) ≡ roll-at run before
+          → (state_at run at).accepted ≡ (state_at run before).accepted → roll_at run at ≡ roll_at run before
+          → roll_at run (at ++ call ∷ []) ≡ roll_at run before
       stays at call rest within same-accepted same-roll =
           ⊎_elim (λ same. same ∙ same-roll)
           (λ settling.
-          absurd (no_settling at call rest (roll-at run (at ++ call ∷ [])) within same-accepted same-roll settling))
+          absurd (no_settling at call rest (roll_at run (at ++ call ∷ [])) within same-accepted same-roll settling))
           (roll-more run at call)
 
       all :
           (more : List Call) (call : Call) (rest : List Call) → quiet.later ≡ more ++ (call ∷ rest)
-          → run.calls ≡ (before ++ last-release ∷ more) ++ call ∷ (rest ++ later)
+          → run.calls ≡ (before ++ last_release ∷ more) ++ call ∷ (rest ++ later)
       all more call rest shorter =
-          further_on run.calls calls later (before ++ last-release ∷ more) call rest there
-          (quiet.there ∙ ap (λ (l : List Call). before ++ last-release ∷ l) shorter
-          ∙ sym (append_assoc before (last-release ∷ more) (call ∷ rest)))
+          further_on run.calls calls later (before ++ last_release ∷ more) call rest there
+          (quiet.there ∙ ap (λ (l : List Call). before ++ last_release ∷ l) shorter
+          ∙ sym (append_assoc before (last_release ∷ more) (call ∷ rest)))
 
   quiet_accepted : (state_at run calls).accepted ≡ (state_at run before).accepted
   quiet_accepted =
       ap (λ (c : List Call). (state_at run c).accepted) quiet.there
       ∙ accepted_since quiet.later [] (sym (append-nil quiet.later))
 
-  quiet_roll : roll-at run calls ≡ roll-at run before
-  quiet_roll = ap (roll-at run) quiet.there ∙ roll_since quiet.later [] (sym (append-nil quiet.later))
+  quiet_roll : roll_at run calls ≡ roll_at run before
+  quiet_roll = ap (roll_at run) quiet.there ∙ roll_since quiet.later [] (sym (append-nil quiet.later))
 
   -- a quiet station is open
   quiet_live : is_shut (state_at run calls) ≡ false
@@ -222,7 +222,7 @@ module _
         (at rest : List Call) → calls' ≡ at ++ rest → Agree (known (state_at run before)) (known (state_at other at))
     agree at rest within =
         agree-from (state_at run before).accepted (state_at other at).accepted
-        (alike_at run other group before (last-release ∷ (quiet.later ++ later)) at (rest ++ later') in-run
+        (alike_at run other group before (last_release ∷ (quiet.later ++ later)) at (rest ++ later') in-run
         (there' ∙ ap (λ (c : List Call). c ++ later') within ∙ append_assoc at rest later'))
 
     -- what it knew at a moment is known
@@ -235,22 +235,22 @@ module _
         (heard_later other at rest message (heard_at other at message found.listed)) in
         let on : On message (state_at run before).accepted =
         subst (On message) (accepted-told run calls ∙ quiet_accepted) (into message heard-there) in
-        let Known-is =
+        let known_is =
         some-message (known (state_at run before) message.station message.number)
         (on_found (state_at run before).accepted message on) in
-        let here = sym (ap₂ (known (state_at run before)) found.station_is found.number_is) ∙ Known-is.1 in
-        here ∙ ap Some (agree at rest within station number Known-is.0 message here e)
+        let here = sym (ap₂ (known (state_at run before)) found.station_is found.number_is) ∙ known_is.1 in
+        here ∙ ap Some (agree at rest within station number known_is.0 message here e)
 
     -- it has no wave more
-    fewer : last_wave (roll-at other calls') ≤ last_wave (roll-at run calls)
+    fewer : last_wave (roll_at other calls') ≤ last_wave (roll_at run calls)
     fewer =
         ⊎_elim (λ more. absurd (never more)) (λ few. few)
-        (cases_lt (last_wave (roll-at run calls)) (last_wave (roll-at other calls')))
+        (cases_lt (last_wave (roll_at run calls)) (last_wave (roll_at other calls')))
       where
-        never : suc (last_wave (roll-at run calls)) ≤ last_wave (roll-at other calls') → ⊥
+        never : suc (last_wave (roll_at run calls)) ≤ last_wave (roll_at other calls') → ⊥
         never more =
-            let found = earlier other calls' (suc (last_wave (roll-at run calls))) more in
-            let last = last_settled other found.first (last_wave (roll-at run calls)) found.count_is in
+            let found = earlier other calls' (suc (last_wave (roll_at run calls))) more in
+            let last = last_settled other found.first (last_wave (roll_at run calls)) found.count_is in
             let up_to_lem =
             further_on calls' found.first found.later last.before last.call last.later found.there
             last.there in
@@ -258,7 +258,7 @@ module _
             further_on other.calls calls' later' last.before last.call (last.later ++ found.later) there'
             up_to_lem in
             let same-roll =
-            same_rolls run other group (last_wave (roll-at run calls)) calls later last.before
+            same_rolls run other group (last_wave (roll_at run calls)) calls later last.before
             (last.call ∷ ((last.later ++ found.later) ++ later')) there all refl last.count_was in
             let settling = last.settling in
             open_and_settled (state_at other last.before) (state_at run before) settling.rule quiet.rule
@@ -270,7 +270,7 @@ module _
             (group.same_n ∙ sym (size_at other last.before))
             (group.same_rule settling.rule quiet.rule settling.order quiet.order
             (inr (given other last.before last.call ((last.later ++ found.later) ++ later')
-            (roll-at other found.first) all settling)) (inl was_given)))
+            (roll_at other found.first) all settling)) (inl was_given)))
             settling.settled found_open was_open
 
 pub equal_when_quiet : {Held Reply : Type 0} → EqualWhenQuiet Held Reply
@@ -280,9 +280,9 @@ equal_when_quiet run other group calls later calls' later' there there' same qui
     fewer other run (turned run other group) calls' later' there' quiet' calls later there
     (λ message on. (same message).0 on) in
     is-roll-told (state_at run calls) entries is
-    ∙ ap (λ shut. cond shut [] (roll-at run calls)) (quiet_live run other group calls later there quiet)
-    ∙ same_rolls run other group (last_wave (roll-at run calls)) calls later calls' later' there there' refl
+    ∙ ap (λ shut. cond shut [] (roll_at run calls)) (quiet_live run other group calls later there quiet)
+    ∙ same_rolls run other group (last_wave (roll_at run calls)) calls later calls' later' there there' refl
     (omega (arith, few, few'))
-    ∙ sym (ap (λ shut. cond shut [] (roll-at other calls'))
+    ∙ sym (ap (λ shut. cond shut [] (roll_at other calls'))
     (quiet_live other run (turned run other group) calls' later' there' quiet'))
     ∙ sym (is-roll-told (state_at other calls') entries' is')

@@ -484,15 +484,15 @@ waiting_bound run calls between message entries entries' accepted rolled off fol
     let told = accepted-told run calls in
     let settings = settings-kept run.step (beginning run) calls in
     let same : entries ≡ (state_at run calls).roll = one_roll (state_at run calls) entries rolled ∙ grounded.shown in
-    let Known-is = grounded.named message (subst (λ (l : List Message). On message l) told accepted) in
+    let known_is = grounded.named message (subst (λ (l : List Message). On message l) told accepted) in
     let waits : Waits (state_at run calls) message =
     record {
-      accepted = Known-is;
+      accepted = known_is;
       unreleased =
           ⊎_elim (λ above. above)
           (λ low.
           absurd (off (subst (λ (l : List Entry). On message (on_roll l)) (sym same)
-          (low_on (state_at run calls) grounded message Known-is low))))
+          (low_on (state_at run calls) grounded message known_is low))))
           (cases_lt (released (state_at run calls) message.station) message.number);
       followed =
           λ station low high apart.

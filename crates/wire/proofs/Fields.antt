@@ -55,31 +55,31 @@ module _ (n : ℕ) (message : Message) (note : List ℕ) (sixteen : length messa
   abbrev spare : List ℕ
   spare = replicate (461 - length note) 0
 
-  abbrev from-note : List ℕ
-  from-note = note ++ spare
+  abbrev from_note : List ℕ
+  from_note = note ++ spare
 
-  abbrev from-order : List ℕ
-  from-order = message.order ++ (length note ∷ from-note)
+  abbrev from_order : List ℕ
+  from_order = message.order ++ (length note ∷ from_note)
 
-  pub from_4 : drop 4 (checked_part n message note) ≡ in_two message.number ++ (flat_map in_two message.after ++ from-order)
+  pub from_4 : drop 4 (checked_part n message note) ≡ in_two message.number ++ (flat_map in_two message.after ++ from_order)
   unfolding checked_part
   from_4 = refl
 
-  pub from_6 : drop 6 (checked_part n message note) ≡ flat_map in_two message.after ++ from-order
+  pub from_6 : drop 6 (checked_part n message note) ≡ flat_map in_two message.after ++ from_order
   unfolding checked_part
   from_6 = refl
 
-  pub from_38 : drop 38 (checked_part n message note) ≡ from-order
+  pub from_38 : drop 38 (checked_part n message note) ≡ from_order
   unfolding checked_part
-  from_38 = drop_at (flat_map in_two message.after) from-order 32 (length_twos message.after ∙ ap (λ k. 2 * k) sixteen)
+  from_38 = drop_at (flat_map in_two message.after) from_order 32 (length_twos message.after ∙ ap (λ k. 2 * k) sixteen)
 
-  pub from_46 : drop 46 (checked_part n message note) ≡ length note ∷ from-note
+  pub from_46 : drop 46 (checked_part n message note) ≡ length note ∷ from_note
   from_46 =
       sym (drop-drop 8 38 (checked_part n message note))
       ∙ ap (drop 8) from_38
-      ∙ drop_at message.order (length note ∷ from-note) 8 eight
+      ∙ drop_at message.order (length note ∷ from_note) 8 eight
 
-  pub from_47 : drop 47 (checked_part n message note) ≡ from-note
+  pub from_47 : drop 47 (checked_part n message note) ≡ from_note
   from_47 = sym (drop-drop 1 46 (checked_part n message note)) ∙ ap (drop 1) from_46
 
   pub length_checked : length note ≤ 64 → length (checked_part n message note) ≡ 508
@@ -90,7 +90,7 @@ module _ (n : ℕ) (message : Message) (note : List ℕ) (sixteen : length messa
   at_number k h =
       sym (get_or-drop 4 (checked_part n message note) k 0)
       ∙ ap (λ xs. get_or xs k 0) from_4
-      ∙ get_or_append_left (in_two message.number) (flat_map in_two message.after ++ from-order) 0 k h
+      ∙ get_or_append_left (in_two message.number) (flat_map in_two message.after ++ from_order) 0 k h
 
   pub at_counts :
       (k : ℕ) → k < 32
@@ -98,7 +98,7 @@ module _ (n : ℕ) (message : Message) (note : List ℕ) (sixteen : length messa
   at_counts k h =
       sym (get_or-drop 6 (checked_part n message note) k 0)
       ∙ ap (λ xs. get_or xs k 0) from_6
-      ∙ get_or_append_left (flat_map in_two message.after) from-order 0 k
+      ∙ get_or_append_left (flat_map in_two message.after) from_order 0 k
       (omega (arith, length_twos message.after))
       ∙ at_twos message.after k (omega arith)
 
@@ -122,7 +122,7 @@ module _ (n : ℕ) (message : Message) (note : List ℕ) (sixteen : length messa
   at_order k h =
       sym (get_or-drop 38 (checked_part n message note) k 0)
       ∙ ap (λ xs. get_or xs k 0) from_38
-      ∙ get_or_append_left message.order (length note ∷ from-note) 0 k (omega arith)
+      ∙ get_or_append_left message.order (length note ∷ from_note) 0 k (omega arith)
 
   pub at_length : byte (checked_part n message note) 46 ≡ length note
   at_length = sym (get_or-drop 46 (checked_part n message note) 0 0) ∙ ap (λ xs. get_or xs 0 0) from_46

@@ -1,7 +1,7 @@
 // Questions to a board, and when two are the same.
 ghost use Rattle.std.specs.Prelude.{◌≡◌, Decides};
 ghost use Rattle.board.specs.Ballots.{votes_for};
-ghost use Rattle.board.specs.Boards.{absent, all_present, candidate, is_absent, is_present, is_same_board, lead, member, voters_at};
+ghost use Rattle.board.specs.Boards.{ComparingDecides, absent, all_present, candidate, is_absent, is_present, is_same_board, lead, member, voters_at};
 ghost use Rattle.board.specs.Sets.{set_of};
 ghost use Rattle.std.specs.Cmp.Rules.{comparing};
 ghost use Rattle.std.proofs.Common.{rules};
@@ -86,6 +86,7 @@ impl PartialEq for Board {
     fn eq(&self, other: &Board) -> bool
         ensures answer { result ≡ is_same_board self.now other.now }
         ensures same { Decides result (self.now ≡ other.now) }
+        ensures comparing { ComparingDecides }
     {
         if self.n != other.n {
             return false;

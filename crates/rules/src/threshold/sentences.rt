@@ -2,7 +2,7 @@
 ghost use Rattle.std.specs.Prelude.{◌≡◌, ◌+◌, ◌&&◌, nat_lt};
 ghost use Rattle.board.specs.Boards.{absent, candidate, lead};
 ghost use Rattle.board.specs.Sets.{any, every, implies, set_of};
-ghost use Rattle.rules.specs.Thresholds.{asks_below, cannot_pass, few_absent, is_led, may_be_led, out_of_it, passes, settles as settles-by, source};
+ghost use Rattle.rules.specs.Thresholds.{asks_below, cannot_pass, few_absent, is_led, may_be_led, out_of_it, passes, settles as settles_by, source};
 
 use board::Board;
 use board::sets::{STATIONS, alone, join};
@@ -19,7 +19,7 @@ pub fn asks_below(phi: u8, board: &Board) -> bool
 
 // Whether the board is settled where the rule below does not answer.
 pub fn settles(phi: u8, board: &Board) -> bool
-    ensures { result ≡ settles-by phi board.now }
+    ensures { result ≡ settles_by phi board.now }
 {
     if !are_few_absent(phi, board) {
         return false;

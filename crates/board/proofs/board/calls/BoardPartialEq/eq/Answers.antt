@@ -1,8 +1,14 @@
 use Rattle.std.proofs.Common.{ap}
 use Rattle.std.proofs.lemmas.Slice.Eq.{slice_eq-Decides}
-use Rattle.board.proofs.Made.{same-board}
+use Rattle.board.proofs.Made.{comparing_decides, same-board}
 use Rattle.board.proofs.board.calls.BoardPartialEq.eq.Goals as goal
 use Rattle.std.proofs.lemmas.Bool.Decides.{Decides-eqb}
+
+pub returns-then-self-other-clause-comparing : goal.returns-then-self-other-clause-comparing
+returns-then-self-other-clause-comparing c = comparing_decides
+
+pub returns-then-self-other-2-clause-comparing : goal.returns-then-self-other-2-clause-comparing
+returns-then-self-other-2-clause-comparing c = comparing_decides
 
 pub returns-clause-same : goal.returns-clause-same
 returns-clause-same c =
@@ -10,3 +16,6 @@ returns-clause-same c =
       (λ e. same-board c.args.self.now c.args.other.now c.if-self-other.false c.if-self-other-2.false (decides.0 e)),
       (λ e. decides.1 (ap (λ board. board.voters) e)),
     )
+
+pub returns-clause-comparing : goal.returns-clause-comparing
+returns-clause-comparing c = comparing_decides
