@@ -4,4 +4,6 @@ pub mod Masks
 pub mod Made
 pub mod Facts
 pub mod Extensions
+pub mod Asked
 pub mod Collected
+pub mod FromCalls

@@ -1,20 +1,22 @@
 -- Boards and their sets: the steps by which the code makes one, and that a board is the board of its sets.
 -- Assumes nothing.
-use Rattle.std.proofs.Common.{◌≡◌, ℕ, ◌+◌, ◌*◌, ◌/◌, ◌%◌, ◌^◌, ◌<◌, ◌≤◌, Bool, true, false, not, ◌&&◌, ◌||◌, eqb, List, Ok, Result, sym, refl, ap, ◌∙◌, subst, ⊎_elim, add-one, arith, pow_pos, pow_mono}
+use Rattle.std.proofs.Common.{◌≡◌, ℕ, zero, suc, length, [], ◌∷◌, ap₂, ◌+◌, ◌*◌, ◌/◌, ◌%◌, ◌^◌, ◌<◌, ◌≤◌, Bool, true, false, not, ◌&&◌, ◌||◌, eqb, List, Ok, Result, sym, refl, ap, ◌∙◌, subst, ⊎_elim, add-one, arith, pow_pos, pow_mono}
 use mathlib.Core.Bool.{Bool-set}
 use native.Mathlib.Nat.{div-eq_of_lt}
 use Rattle.std.proofs.lemmas.Nat.{shr_split, mod_below}
+use Rattle.std.proofs.Math.Bool.{or-false, or_assoc}
 use Rattle.std.specs.Cmp.Lexicographic.{pointwise}
 use Rattle.std.proofs.lemmas.Bool.{cases_Bool, true≢false, eqb-true, eq-eqb, lt-ltb, and_from, and_parts}
 use Rattle.std.proofs.lemmas.Bool.Decides.{nat_tests, same_from_decides, Decides-eqb, Decides-ltb}
 use Rattle.std.proofs.lemmas.Slice.Eq.{slice_eq-Decides}
 use Rattle.wire.specs.declared.fault.Fault.{Fault}
-use Rattle.board.specs.Sets.{has, all, some, count, mask, implies, within, every, any, up_to}
-use Rattle.board.specs.Ballots.{is_group, is_board, votes_for, votes}
+use Rattle.std.specs.List.{fold}
+use Rattle.board.specs.Sets.{has, all, some, count, mask, implies, within, every, any, set_of, up_to}
+use Rattle.board.specs.Ballots.{is_group, is_board, votes_for, votes, voting_set}
 use Rattle.board.specs.Boards.{ComparingDecides, board_decided, board_of, is_same_board}
 use Rattle.board.specs.declared.board.Board.{Board}
-use Rattle.board.proofs.Places.{all-at, all_more, all_same, some-none, some_more, mask-same, count_same}
-use Rattle.board.proofs.Digits.{has-zero, has-mask, mask_is}
+use Rattle.board.proofs.Places.{all-at, all_more, all_same, some-none, mask-same, count_same}
+use Rattle.board.proofs.Digits.{has-zero, has-mask, mask_below, mask_is}
 
 -- only stations 1 to n
 
@@ -46,41 +48,49 @@ pub all_goes_on : (test : ℕ → Bool) (place : ℕ) → all test place ≡ tru
 all_goes_on test place below here =
     ap (all test) (add-one place) ∙ all_more test place ∙ and_from (test place) (all test place) here below
 
--- who votes for a candidate at an earlier place
+-- who votes for some candidate, told set by set
 
-pub voting_none : (voters : List ℕ) → 0 ≡ mask (λ voter. some (λ candidate. has (votes_for voters candidate) voter) 0) 16
-voting_none voters =
-    mask_is (λ voter. some (λ candidate. has (votes_for voters candidate) voter) 0) 16 0 (omega arith)
-    (λ voter _. has-zero voter ∙ sym (some-none (λ candidate. has (votes_for voters candidate) voter)))
+-- the stations that are in one of two sets
+abbrev pub joins : ℕ → ℕ → ℕ
+joins one other = set_of (λ place. has one place || has other place)
 
-pub voting_more :
-    (voters : List ℕ) (place before after : ℕ)
-    → before ≡ mask (λ voter. some (λ candidate. has (votes_for voters candidate) voter) place) 16
-    → after ≡ mask (λ voter. has (votes_for voters place) voter || has before voter) 16
-    → after ≡ mask (λ voter. some (λ candidate. has (votes_for voters candidate) voter) (place + 1)) 16
-voting_more voters place before after b a =
-    a ∙ mask-same (λ voter. has (votes_for voters place) voter || has before voter)
-    (λ voter. some (λ candidate. has (votes_for voters candidate) voter) (place + 1)) 16
+-- a place that passes is the first, or is found after it
+some_later : (test : ℕ → Bool) (n : ℕ) → some test (suc n) ≡ (test 0 || some (λ k. test (suc k)) n)
+unfolding some
+some_later test zero = refl
+some_later test (suc n) = ap (λ b. test (suc n) || b) (some_later test n) ∙ swapped (test (suc n)) (test 0) (some (λ k. test (suc k)) n)
+  where
+    swapped : (x y z : Bool) → (x || (y || z)) ≡ (y || (x || z))
+    swapped x y z = grind (arith, nat_tests)
+
+has-joins :
+    (sets : List ℕ) (set voter : ℕ) → voter < 16
+    → has (fold joins set sets) voter ≡ (has set voter || some (λ k. has (votes_for sets k) voter) (length sets))
+has-joins [] set voter h =
+    sym (ap (λ b. has set voter || b) (some-none (λ k. has (votes_for [] k) voter)) ∙ or-false (has set voter))
+has-joins (one ∷ sets) set voter h =
+    has-joins sets (joins set one) voter h
+    ∙ ap (λ b. b || some (λ k. has (votes_for sets k) voter) (length sets)) (has-mask (λ place. has set place || has one place) 16 voter h)
+    ∙ or_assoc (has set voter) (has one voter) (some (λ k. has (votes_for sets k) voter) (length sets))
+    ∙ ap (λ b. has set voter || b) (sym (some_later (λ k. has (votes_for (one ∷ sets) k) voter) (length sets)))
+
+joins_below : (sets : List ℕ) (set : ℕ) → set < 65536 → fold joins set sets < 65536
+joins_below [] set h = h
+joins_below (one ∷ sets) set h = joins_below sets (joins set one) (mask_below (λ place. has set place || has one place) 16)
+
+pub joins-voting : (voters : List ℕ) → length voters ≡ 16 → fold joins 0 voters ≡ voting_set voters
+joins-voting voters long =
+    mask_is (λ voter. any (λ candidate. has (votes_for voters candidate) voter)) 16 (fold joins 0 voters)
+    (joins_below voters 0 (omega arith))
     (λ voter h.
-    ap (λ x. has (votes_for voters place) voter || x)
-    (ap (λ s. has s voter) b ∙ has-mask (λ k. some (λ candidate. has (votes_for voters candidate) k) place) 16 voter h)
-    ∙ sym (ap (some (λ candidate. has (votes_for voters candidate) voter)) (add-one place)
-    ∙ some_more (λ candidate. has (votes_for voters candidate) voter) place))
+    has-joins voters 0 voter h
+    ∙ ap₂ (λ b n. b || some (λ candidate. has (votes_for voters candidate) voter) n) (has-zero voter) long)
 
 -- every present station is among those that vote
-pub all_vote :
-    (present voting : ℕ) (voters : List ℕ)
-    → voting ≡ mask (λ voter. any (λ candidate. has (votes_for voters candidate) voter)) 16
-    → within present voting ≡ every (votes present voters)
-all_vote present voting voters e =
-    all_same (λ place. implies (has present place) (has voting place)) (votes present voters) 16
-    (λ place h. ap (implies (has present place))
-    (ap (λ s. has s place) e ∙ has-mask (λ voter. any (λ candidate. has (votes_for voters candidate) voter)) 16 place h))
-
-pub board_is :
-    (sixteen range each vote answer : Bool) → sixteen ≡ true → range ≡ true → each ≡ true → answer ≡ vote
-    → answer ≡ (sixteen && (range && (each && vote)))
-board_is sixteen range each vote answer s r f e = grind (arith, nat_tests)
+pub all_vote : (present : ℕ) (voters : List ℕ) → within present (voting_set voters) ≡ every (votes present voters)
+all_vote present voters =
+    all_same (λ place. implies (has present place) (has (voting_set voters) place)) (votes present voters) 16
+    (λ place h. ap (implies (has present place)) (has-mask (λ voter. any (λ candidate. has (votes_for voters candidate) voter)) 16 place h))
 
 -- the number of stations in a set that is told by a test
 pub number-told : (test : ℕ → Bool) (set size : ℕ) → set ≡ mask test 16 → size ≡ count (has set) 16 → size ≡ count test 16

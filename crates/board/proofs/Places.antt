@@ -39,6 +39,12 @@ pub some_not : (test : ℕ → Bool) (n place : ℕ) → some test n ≡ false �
 some_not test n place e h =
     ⊎_elim (λ t. absurd (true≢false (sym (some-from test n place h t) ∙ e))) (λ f. f) (cases_Bool (test place))
 
+pub some-nothing : (test : ℕ → Bool) (n : ℕ) → ((place : ℕ) → place < n → test place ≡ false) → some test n ≡ false
+some-nothing test n none =
+    ⊎_elim
+    (λ found. let place = some_at test n found in absurd (true≢false (sym place.2 ∙ none place.0 place.1)))
+    (λ f. f) (cases_Bool (some test n))
+
 -- one place more
 
 pub all_none : (test : ℕ → Bool) → all test 0 ≡ true

@@ -1,10 +1,8 @@
 -- What sets must hold to be a board. Assumes nothing.
 use Rattle.std.specs.Prelude.{ℕ, Bool, not, ◌&&◌, List, length, ◌==◌, nat_le, slice_index}
 use Rattle.board.specs.Sets.{has, implies, every, any, set_of, within, up_to}
-
--- a group has 1 to 16 stations
-abbrev pub is_group : ℕ → Bool
-is_group n = nat_le 1 n && nat_le n 16
+-- a group has 1 to 16 stations, as the blocks say
+pub use Rattle.wire.specs.Messages.{is_group}
 
 -- the stations that vote for the candidate of the station at a place: none where it has no candidate
 abbrev pub votes_for : List ℕ → ℕ → ℕ

@@ -5,5 +5,6 @@ pub mod board;
 pub mod rule;
 pub mod sets;
 
-pub use board::{Board, is_group, voting};
+pub use board::{Board, voting};
 pub use rule::Rule;
+pub use wire::is_group;

@@ -1,11 +1,10 @@
 -- Orders carried out on a book, whatever it holds: by its step. Assumes nothing.
-use Rattle.std.specs.Prelude.{◌≡◌, ℕ, List, [], ◌∷◌}
+use Rattle.std.specs.Prelude.{◌≡◌, ℕ, List, [], ◌∷◌, fold}
 
 module _ {Held Reply : Type 0} where
   -- what is held after a list of orders, carried out one after another
   abbrev pub held_after : (Held → List ℕ → Reply × Held) → Held → List (List ℕ) → Held
-  held_after step held [] = held
-  held_after step held (order ∷ orders) = held_after step (step held order).1 orders
+  held_after step held orders = fold (λ before order. (step before order).1) held orders
 
   -- their replies, in their order
   abbrev pub replies : (Held → List ℕ → Reply × Held) → Held → List (List ℕ) → List Reply

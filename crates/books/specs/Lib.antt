@@ -1,3 +1,4 @@
 pub mod Books
 pub mod Till
 pub mod Cabin
+pub mod CabinWords

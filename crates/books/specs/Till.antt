@@ -1,9 +1,16 @@
 -- The till book: what an order does to a balance. Assumes nothing.
-use Rattle.std.specs.Prelude.{ℕ, ◌+◌, ◌-◌, Bool, cond, ◌&&◌, List, ◌==◌, nat_le, nat_lt}
+use Rattle.std.specs.Prelude.{ℕ, ◌+◌, ◌-◌, Bool, cond, ◌&&◌, List, Ok, Err, Result, ◌==◌, nat_le, nat_lt}
 use Rattle.wire.specs.Words.{byte, four_bytes}
+use Rattle.books.specs.declared.till.TillCode.{TillCode}
+use Rattle.books.specs.declared.till.TillCode.TheVariants.{PayIn, PayOut, Read}
 use Rattle.books.specs.declared.till.TillReply.{TillReply}
 use Rattle.books.specs.declared.till.TillWord.{TillWord}
 use Rattle.books.specs.declared.till.TillWord.TheVariants.{Done, Unreadable, OverLimit, NotEnough}
+
+-- what an order's code asks for, if it asks for anything
+abbrev pub till_code : ℕ → Result TillCode TillWord
+till_code code =
+    cond (code == 1) (Ok PayIn) (cond (code == 2) (Ok PayOut) (cond (code == 3) (Ok Read) (Err Unreadable)))
 
 -- an order: its code in byte 0, three zeros, its amount in bytes 4 to 7
 abbrev pub code : List ℕ → ℕ
@@ -26,6 +33,11 @@ till_readable order =
 -- a word with the balance afterwards, which is what the till then holds
 abbrev pub leaves : TillWord → ℕ → TillReply × ℕ
 leaves word balance = (record { word = word; balance = balance }, balance)
+
+-- the outcome of an order: the balance that it leaves when it is done, or the word of why it is not
+abbrev pub leaving : ℕ → Result ℕ TillWord → TillReply × ℕ
+leaving balance (Ok left) = leaves Done left
+leaving balance (Err word) = leaves word balance
 
 -- code 1 pays in, unless the balance would pass 1,000,000,000
 abbrev pub pay_in : ℕ → ℕ → TillReply × ℕ

@@ -13,17 +13,20 @@ pub trait Book {
     // The highest order code.
     const TOP: u8;
 
+    ghost TOP: { ℕ };
+
     ghost held: { Type 0 };
 
     ghost holds: { Self → held };
 
     ghost step: { held → List ℕ → Self.Reply × held };
 
-    ghost highest: { ℕ };
-
     // Tells the highest order code.
     fn highest_code() -> u8
-        ensures { result ≡ highest };
+        ensures { result ≡ TOP }
+    {
+        Self::TOP
+    }
 
     // Carries one order out, by exactly the step.
     fn post(&mut self, order: &[u8; ORDER]) -> Self::Reply

@@ -1,12 +1,13 @@
 // The cabin book: the slots of fourteen days, and the cabins of a lift.
-ghost use Rattle.std.specs.Prelude.{◌≡◌, ℕ, true, List, slice_index};
+ghost use Rattle.std.specs.Prelude.{◌≡◌, ℕ, true, List, Some, Ok, slice_index};
 ghost use Rattle.wire.specs.Words.{two_bytes};
 ghost use Rattle.books.specs.declared.cabin.CabinBook.{CabinBook};
 ghost use Rattle.books.specs.declared.cabin.CabinReply.TheVariants.{Done};
 ghost use Rattle.books.specs.Books.{OnlyAlters};
-ghost use Rattle.books.specs.Cabin.{at_start, cabin_readable, cabin_step, cabin_top, home_told, most, named_well, on_slot, slot_at, slot_told};
+ghost use Rattle.books.specs.Cabin.{at_start, cabin_code, cabin_readable, cabin_step, cabin_top, home_told, is_slot, most, named_well, on_its_slot, slot_told};
 
 use crate::book::{Book, ORDER};
+use std::fmt;
 
 pub const DAYS: usize = 14;
 
@@ -19,17 +20,17 @@ pub const SEATS: [u8; CABINS] = [
     8, 8, 8, 8, 8, 8, 8, 8, 8, 8, 8, 8, 16, 16, 16, 16, 16, 16, 16, 16, 24, 24, 24, 24,
 ];
 
-// The order codes.
-const BOOK: u8 = 1;
-
-const CANCEL: u8 = 2;
-
-const ASSIGN: u8 = 3;
-
-const RIDE: u8 = 4;
+// What an order asks of the book; the number is the order's code.
+#[derive(Clone, Copy)]
+enum CabinCode {
+    Book = 1,
+    Cancel = 2,
+    Assign = 3,
+    Ride = 4,
+}
 
 // One departure of one day.
-#[derive(Clone, Copy)]
+#[derive(Clone, Copy, PartialEq, Eq, Debug)]
 pub enum Slot {
     Free,
     Booked { party: u16, seats: u8 },
@@ -48,18 +49,88 @@ pub enum CabinReply {
     TooSmall = 5,
 }
 
-// The slots, and for each cabin its seats and whether it is home.
+// A cabin: its seats, and whether it is home.
+#[derive(Clone, Copy)]
+struct Cabin {
+    seats: u8,
+    home: bool,
+}
+
+// The cabins and the slots.
 #[derive(Clone, Copy)]
 pub struct CabinBook {
-    seats: [u8; CABINS],
-    home: [bool; CABINS],
+    cabins: [Cabin; CABINS],
     slots: [[Slot; DEPARTURES]; DAYS],
+}
+
+impl TryFrom<u8> for CabinCode {
+    type Error = CabinReply;
+
+    ghost try_from_gives = { λ code result. result ≡ cabin_code code };
+
+    fn try_from(code: u8) -> Result<CabinCode, CabinReply> {
+        match code {
+            1 => Ok(CabinCode::Book),
+            2 => Ok(CabinCode::Cancel),
+            3 => Ok(CabinCode::Assign),
+            4 => Ok(CabinCode::Ride),
+            _ => Err(CabinReply::Unreadable),
+        }
+    }
+}
+
+impl fmt::Display for Slot {
+    ghost use Rattle.books.specs.CabinWords.{slot_words};
+
+    ghost output = { λ slot. Some (slot_words slot) };
+
+    fn fmt<W: fmt::Write>(&self, f: &mut fmt::Formatter<W>) -> fmt::Result {
+        match self {
+            Slot::Free => f.write_str("free"),
+            Slot::Booked { party, seats } => write!(f, "booked for party {party}, {seats} seats"),
+            Slot::Assigned {
+                party,
+                seats,
+                cabin,
+            } => { write!(f, "assigned to party {party}, {seats} seats, cabin {cabin}") }
+            Slot::Ridden => f.write_str("ridden"),
+        }
+    }
+}
+
+impl fmt::Display for CabinReply {
+    ghost use Rattle.books.specs.CabinWords.{reply_word};
+
+    ghost output = { λ reply. Some (reply_word reply) };
+
+    fn fmt<W: fmt::Write>(&self, f: &mut fmt::Formatter<W>) -> fmt::Result {
+        f.write_str(match self {
+            CabinReply::Done => "done",
+            CabinReply::Unreadable => "unreadable",
+            CabinReply::OtherState => "slot in another state",
+            CabinReply::OtherParty => "other party",
+            CabinReply::OtherCabin => "cabin not home, or another one",
+            CabinReply::TooSmall => "cabin too small",
+        })
+    }
+}
+
+impl From<CabinReply> for u8 {
+    ghost use Rattle.books.specs.CabinWords.{reply_number};
+
+    ghost from_gives = { λ reply number. number ≡ reply_number reply };
+
+    fn from(reply: CabinReply) -> u8 {
+        reply as u8
+    }
 }
 
 impl Book for CabinBook {
     type Reply = CabinReply;
 
-    const TOP: u8 = 4;
+    const TOP: u8 = CabinCode::Ride as u8;
+
+    ghost TOP = { cabin_top };
 
     ghost held = { CabinBook };
 
@@ -67,22 +138,16 @@ impl Book for CabinBook {
 
     ghost step = { cabin_step };
 
-    ghost highest = { cabin_top };
-
-    fn highest_code() -> u8 {
-        Self::TOP
-    }
-
     // Carries one order out; only a reply that it is done alters the book.
     fn post(&mut self, order: &[u8; ORDER]) -> CabinReply
         ensures reply { result ≡ (cabin_step self.old order.now).0 }
         ensures next { self.new ≡ (cabin_step self.old order.now).1 }
         ensures only_done_alters { OnlyAlters (λ reply. reply ≡ Done) cabin_step }
     {
-        if !self.is_readable(order) {
-            return CabinReply::Unreadable;
+        match CabinCode::try_from(order[0]) {
+            Ok(code) if self.is_readable(code, order) => self.carry_out(code, order),
+            _ => CabinReply::Unreadable,
         }
-        self.carry_out(order)
     }
 }
 
@@ -92,8 +157,7 @@ impl CabinBook {
         ensures { result ≡ at_start }
     {
         CabinBook {
-            seats: SEATS,
-            home: [true; CABINS],
+            cabins: SEATS.map(|seats| Cabin { seats, home: true }),
             slots: [[Slot::Free; DEPARTURES]; DAYS],
         }
     }
@@ -102,120 +166,102 @@ impl CabinBook {
     pub fn slot(&self, day: u8, departure: u8) -> Option<Slot>
         ensures { result ≡ slot_told self.now day departure }
     {
-        if day < 1 || day as usize > DAYS {
-            return None;
-        }
-        if departure < 1 || departure as usize > DEPARTURES {
-            return None;
-        }
-        Some(self.slots[day as usize - 1][departure as usize - 1])
+        let day = usize::from(day).checked_sub(1)?;
+        let departure = usize::from(departure).checked_sub(1)?;
+        self.slots.get(day)?.get(departure).copied()
     }
 
     // Whether a cabin is home, where there is such a cabin.
     pub fn is_home(&self, cabin: u8) -> Option<bool>
         ensures { result ≡ home_told self.now cabin }
     {
-        if cabin < 1 || cabin as usize > self.home.len() {
-            return None;
+        let place = usize::from(cabin).checked_sub(1)?;
+        self.cabins.get(place).map(|cabin| cabin.home)
+    }
+
+    // Whether an order of this code can be read.
+    fn is_readable(&self, code: CabinCode, order: &[u8; ORDER]) -> bool
+        requires { cabin_code (slice_index order.now 0) ≡ Ok code }
+        ensures { result ≡ cabin_readable self.now order.now }
+    {
+        let [_, day, departure, _, _, _, _, spare] = *order;
+        is_slot(day, departure) && spare == 0 && self.is_named_well(code, order)
+    }
+
+    // Whether the fields that the code names are in range, and the others 0.
+    fn is_named_well(&self, code: CabinCode, order: &[u8; ORDER]) -> bool
+        requires { cabin_code (slice_index order.now 0) ≡ Ok code }
+        ensures { result ≡ named_well self.now order.now }
+    {
+        let [_, _, _, cabin, _, _, seats, _] = *order;
+        let party = party_in(order);
+        match code {
+            CabinCode::Book => {
+                cabin == 0 && party >= 1 && seats >= 1 && seats <= most_of(&self.cabins)
+            }
+            CabinCode::Cancel => cabin == 0 && party >= 1 && seats == 0,
+            CabinCode::Assign | CabinCode::Ride => {
+                (1..=CABINS).contains(&usize::from(cabin)) && party == 0 && seats == 0
+            }
         }
-        Some(self.home[cabin as usize - 1])
     }
 
     // Carries an order out that can be read: what becomes of a slot depends on its state and the code.
-    fn carry_out(&mut self, order: &[u8; ORDER]) -> CabinReply
-        requires { cabin_readable self.old order.now ≡ true }
-        ensures reply { result ≡ (on_slot self.old order.now (slot_at self.old (slice_index order.now 1) (slice_index order.now 2))).0 }
-        ensures next { self.new ≡ (on_slot self.old order.now (slot_at self.old (slice_index order.now 1) (slice_index order.now 2))).1 }
+    fn carry_out(&mut self, code: CabinCode, order: &[u8; ORDER]) -> CabinReply
+        requires readable { cabin_readable self.old order.now ≡ true }
+        requires code { cabin_code (slice_index order.now 0) ≡ Ok code }
+        ensures reply { result ≡ (on_its_slot self.old order.now).0 }
+        ensures next { self.new ≡ (on_its_slot self.old order.now).1 }
     {
-        let row = order[1] as usize - 1;
-        let column = order[2] as usize - 1;
-        match (self.slots[row][column], order[0]) {
-            (Slot::Free, BOOK) => {
+        let [_, day, departure, cabin, _, _, seats, _] = *order;
+        let slot = &mut self.slots[usize::from(day) - 1][usize::from(departure) - 1];
+        match (*slot, code) {
+            (Slot::Free, CabinCode::Book) => {
                 let party = party_in(order);
-                let seats = order[6];
-                self.slots[row][column] = Slot::Booked { party, seats };
+                *slot = Slot::Booked { party, seats };
                 CabinReply::Done
             }
-            (Slot::Booked { party, .. }, CANCEL) => {
+            (Slot::Booked { party, .. }, CabinCode::Cancel) => {
                 if party != party_in(order) {
                     return CabinReply::OtherParty;
                 }
-                self.slots[row][column] = Slot::Free;
+                *slot = Slot::Free;
                 CabinReply::Done
             }
-            (Slot::Booked { party, seats }, ASSIGN) => {
-                let cabin = order[3];
-                let place = cabin as usize - 1;
-                if !self.home[place] {
+            (Slot::Booked { party, seats }, CabinCode::Assign) => {
+                let given = &mut self.cabins[usize::from(cabin) - 1];
+                if !given.home {
                     return CabinReply::OtherCabin;
                 }
-                if seats > self.seats[place] {
+                if seats > given.seats {
                     return CabinReply::TooSmall;
                 }
-                self.home[place] = false;
-                self.slots[row][column] = Slot::Assigned {
+                given.home = false;
+                *slot = Slot::Assigned {
                     party,
                     seats,
                     cabin,
                 };
                 CabinReply::Done
             }
-            (Slot::Assigned { cabin, .. }, RIDE) => {
-                if cabin != order[3] {
+            (Slot::Assigned { cabin: given, .. }, CabinCode::Ride) => {
+                if given != cabin {
                     return CabinReply::OtherCabin;
                 }
-                self.home[cabin as usize - 1] = true;
-                self.slots[row][column] = Slot::Ridden;
+                self.cabins[usize::from(cabin) - 1].home = true;
+                *slot = Slot::Ridden;
                 CabinReply::Done
             }
             _ => CabinReply::OtherState,
         }
     }
+}
 
-    // Whether an order can be read.
-    fn is_readable(&self, order: &[u8; ORDER]) -> bool
-        ensures { result ≡ cabin_readable self.now order.now }
-    {
-        if order[0] < 1 || order[0] > <CabinBook as Book>::TOP {
-            return false;
-        }
-        if order[1] < 1 || order[1] as usize > DAYS {
-            return false;
-        }
-        if order[2] < 1 || order[2] as usize > DEPARTURES || order[7] != 0 {
-            return false;
-        }
-        self.is_named_well(order)
-    }
-
-    // Whether the fields that the code names are in range, and the others 0.
-    fn is_named_well(&self, order: &[u8; ORDER]) -> bool
-        ensures { result ≡ named_well self.now order.now }
-    {
-        let cabin = order[3];
-        let party = party_in(order);
-        let seats = order[6];
-        match order[0] {
-            BOOK => {
-                if cabin != 0 || party < 1 || seats < 1 {
-                    return false;
-                }
-                seats <= most_of(&self.seats)
-            }
-            CANCEL => {
-                if cabin != 0 || party < 1 {
-                    return false;
-                }
-                seats == 0
-            }
-            _ => {
-                if cabin < 1 || cabin as usize > self.seats.len() || party != 0 {
-                    return false;
-                }
-                seats == 0
-            }
-        }
-    }
+// Whether there is a slot of this day and departure.
+fn is_slot(day: u8, departure: u8) -> bool
+    ensures { result ≡ is_slot day departure }
+{
+    (1..=DAYS).contains(&usize::from(day)) && (1..=DEPARTURES).contains(&usize::from(departure))
 }
 
 // The party, in two bytes, the lowest first.
@@ -226,12 +272,8 @@ fn party_in(order: &[u8; ORDER]) -> u16
 }
 
 // The most seats that any cabin has.
-fn most_of(seats: &[u8]) -> u8
-    ensures { result ≡ most seats.now }
+fn most_of(cabins: &[Cabin]) -> u8
+    ensures { result ≡ most cabins.now }
 {
-    let mut most = 0u8;
-    for s in seats {
-        most = most.max(*s);
-    }
-    most
+    cabins.iter().map(|cabin| cabin.seats).max().unwrap_or(0)
 }

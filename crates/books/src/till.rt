@@ -1,13 +1,20 @@
 // The till book: a balance, paid into and out of.
 ghost use Rattle.std.specs.Prelude.{◌≡◌, ℕ, List, ◌≢◌};
-ghost use Rattle.wire.specs.Words.{four_bytes};
 ghost use Rattle.books.specs.declared.till.TillWord.TheVariants.{Done};
-ghost use Rattle.books.specs.Till.{till_readable, till_step, till_top};
+ghost use Rattle.books.specs.Till.{leaving, till_code, till_step, till_top};
 
 use crate::book::{Book, ORDER};
 
 // The most that a till holds.
 pub const LIMIT: u32 = 1_000_000_000;
+
+// What an order asks of the till; the number is the order's code.
+#[derive(Clone, Copy)]
+enum TillCode {
+    PayIn = 1,
+    PayOut = 2,
+    Read = 3,
+}
 
 // What was done, or why nothing was.
 #[derive(Clone, Copy, PartialEq, Eq, Debug)]
@@ -31,6 +38,21 @@ pub struct TillBook {
     balance: u32,
 }
 
+impl TryFrom<u8> for TillCode {
+    type Error = TillWord;
+
+    ghost try_from_gives = { λ code result. result ≡ till_code code };
+
+    fn try_from(code: u8) -> Result<TillCode, TillWord> {
+        match code {
+            1 => Ok(TillCode::PayIn),
+            2 => Ok(TillCode::PayOut),
+            3 => Ok(TillCode::Read),
+            _ => Err(TillWord::Unreadable),
+        }
+    }
+}
+
 impl TillBook {
     // A till with nothing in it.
     pub fn new() -> TillBook
@@ -44,12 +66,34 @@ impl TillBook {
     {
         self.balance
     }
+
+    // The balance that an order leaves when it is done, or the word of why it is not.
+    fn left_by(&self, order: &[u8; ORDER]) -> Result<u32, TillWord>
+        ensures { leaving self.now.balance result ≡ till_step self.now.balance order.now }
+    {
+        let [code, 0, 0, 0, a, b, c, d] = *order else {
+            return Err(TillWord::Unreadable);
+        };
+        let amount = u32::from_le_bytes([a, b, c, d]);
+        match (TillCode::try_from(code)?, amount) {
+            (TillCode::PayIn, 1..) => self
+                .balance
+                .checked_add(amount)
+                .filter(|sum| *sum <= LIMIT)
+                .ok_or(TillWord::OverLimit),
+            (TillCode::PayOut, 1..) => self.balance.checked_sub(amount).ok_or(TillWord::NotEnough),
+            (TillCode::Read, 0) => Ok(self.balance),
+            _ => Err(TillWord::Unreadable),
+        }
+    }
 }
 
 impl Book for TillBook {
     type Reply = TillReply;
 
-    const TOP: u8 = 3;
+    const TOP: u8 = TillCode::Read as u8;
+
+    ghost TOP = { till_top };
 
     ghost held = { ℕ };
 
@@ -57,88 +101,17 @@ impl Book for TillBook {
 
     ghost step = { till_step };
 
-    ghost highest = { till_top };
-
-    fn highest_code() -> u8 {
-        Self::TOP
-    }
-
     // Carries one order out; only a reply that it is done alters the till.
     fn post(&mut self, order: &[u8; ORDER]) -> TillReply
         ensures reply { result ≡ (till_step self.old.balance order.now).0 }
         ensures next { self.new.balance ≡ (till_step self.old.balance order.now).1 }
         ensures only_done_alters { (result.word ≢ Done) → self.new ≡ self.old }
     {
-        let reply = reply_to(self.balance, order);
-        *self = TillBook {
-            balance: reply.balance,
+        let (word, balance) = match self.left_by(order) {
+            Ok(balance) => (TillWord::Done, balance),
+            Err(word) => (word, self.balance),
         };
-        reply
+        *self = TillBook { balance };
+        TillReply { word, balance }
     }
-}
-
-// What a till with some balance replies to an order.
-fn reply_to(balance: u32, order: &[u8; ORDER]) -> TillReply
-    ensures { result ≡ (till_step balance order.now).0 }
-{
-    if !is_readable(order) {
-        return TillReply {
-            word: TillWord::Unreadable,
-            balance,
-        };
-    }
-    let amount = amount_in(order);
-    match order[0] {
-        1 => {
-            if u64::from(balance) + u64::from(amount) > u64::from(LIMIT) {
-                return TillReply {
-                    word: TillWord::OverLimit,
-                    balance,
-                };
-            }
-            TillReply {
-                word: TillWord::Done,
-                balance: balance + amount,
-            }
-        }
-        2 => {
-            if amount > balance {
-                return TillReply {
-                    word: TillWord::NotEnough,
-                    balance,
-                };
-            }
-            TillReply {
-                word: TillWord::Done,
-                balance: balance - amount,
-            }
-        }
-        _ => TillReply {
-            word: TillWord::Done,
-            balance,
-        },
-    }
-}
-
-// Whether an order can be read: a code, three zeros, and an amount that the code takes.
-fn is_readable(order: &[u8; ORDER]) -> bool
-    ensures { result ≡ till_readable order.now }
-{
-    if order[0] < 1 || order[0] > <TillBook as Book>::TOP {
-        return false;
-    }
-    if order[1] != 0 || order[2] != 0 || order[3] != 0 {
-        return false;
-    }
-    if order[0] == 3 {
-        return amount_in(order) == 0;
-    }
-    amount_in(order) >= 1
-}
-
-// The amount, in four bytes, the lowest first.
-fn amount_in(order: &[u8; ORDER]) -> u32
-    ensures { result ≡ four_bytes order.now 4 }
-{
-    u32::from_le_bytes([order[4], order[5], order[6], order[7]])
 }

@@ -3,7 +3,7 @@
 // damage to the block is shown with its answer.
 #![tactic(auto)]
 
-use books::{Book, CabinBook, CabinReply, Slot};
+use books::{Book, CabinBook};
 use std::io;
 use std::str::from_utf8;
 use wire::reading::Reading;
@@ -31,16 +31,14 @@ fn booking() -> Message {
 
 // Bytes as text, where they are text.
 fn text(bytes: &[u8]) -> &str {
-    match from_utf8(bytes) {
-        Ok(text) => text,
-        Err(_) => "(no text)",
-    }
+    from_utf8(bytes).unwrap_or("(no text)")
 }
 
+// Where a line goes and what it tells of stay two arguments: each call has a text of its own, so that a
+// struct of both would be made for one line and say no more.
 fn tell_fault(rt: &impl Print, what: &str, fault: Fault) -> io::Result<()> {
     let number = fault.number();
-    let word = fault.word();
-    println!(rt; "{what}: refused {number}, {word}")
+    println!(rt; "{what}: refused {number}, {fault}")
 }
 
 // What reading answers to a block.
@@ -88,11 +86,13 @@ fn tell_filling(
 
 fn tell_contents(rt: &impl Print, reading: &Reading) -> io::Result<()> {
     let n = reading.n;
-    let station = reading.message.station;
-    let number = reading.message.number;
-    let class = reading.message.class;
-    let follows = reading.message.after[0];
-    let order = reading.message.order;
+    let Message {
+        station,
+        number,
+        after: [follows, ..],
+        class,
+        order,
+    } = reading.message;
     let note = text(reading.note);
     println!(rt; "read at the gate: n {n}, station {station}, number {number}, class {class}")?;
     println!(rt; "  follows {follows} of station 1")?;
@@ -116,17 +116,6 @@ fn carry(rt: &impl Print, block: &mut [u8; BLOCK]) -> io::Result<()> {
     tell_label(rt, "label with no note", &unnoted, NAMES)
 }
 
-fn reply_word(reply: CabinReply) -> &'static str {
-    match reply {
-        CabinReply::Done => "done",
-        CabinReply::Unreadable => "unreadable",
-        CabinReply::OtherState => "slot in another state",
-        CabinReply::OtherParty => "other party",
-        CabinReply::OtherCabin => "cabin not home, or another one",
-        CabinReply::TooSmall => "cabin too small",
-    }
-}
-
 // Carries an order out on the book, and tells the reply.
 fn tell_posting(
     rt: &impl Print,
@@ -135,30 +124,14 @@ fn tell_posting(
     order: &[u8; 8],
 ) -> io::Result<()> {
     let reply = book.post(order);
-    let number = reply as u8;
-    let word = reply_word(reply);
-    println!(rt; "{what}: reply {number}, {word}")
+    let number = u8::from(reply);
+    println!(rt; "{what}: reply {number}, {reply}")
 }
 
 // What the book holds of the booked slot, and of its cabin.
 fn tell_slot(rt: &impl Print, book: &CabinBook) -> io::Result<()> {
     match book.slot(3, 5) {
-        Some(Slot::Free) => println!(rt; "  day 3, departure 5 is free")?,
-        Some(Slot::Booked { party, seats }) => {
-            println!(rt; "  day 3, departure 5 is booked for party {party}, {seats} seats")?
-        }
-        Some(
-            Slot::Assigned {
-                party,
-                seats,
-                cabin,
-            },
-        ) => {
-            println!(rt;
-                "  day 3, departure 5 is assigned to party {party}, {seats} seats, cabin {cabin}"
-            )?
-        }
-        Some(Slot::Ridden) => println!(rt; "  day 3, departure 5 is ridden")?,
+        Some(slot) => println!(rt; "  day 3, departure 5 is {slot}")?,
         None => println!(rt; "  there is no such slot")?,
     }
     match book.is_home(2) {
@@ -170,10 +143,7 @@ fn tell_slot(rt: &impl Print, book: &CabinBook) -> io::Result<()> {
 
 // The booking that the block carried, an assignment and a ride, on the gate's copy of the book.
 fn ride(rt: &impl Print, block: &[u8]) -> io::Result<()> {
-    let order = match wire::read(block) {
-        Ok(reading) => reading.message.order,
-        Err(_) => [0; 8],
-    };
+    let order = wire::read(block).map_or([0; 8], |reading| reading.message.order);
     let mut book = CabinBook::new();
     tell_posting(rt, &mut book, "posting the booking", &order)?;
     tell_slot(rt, &book)?;
@@ -202,18 +172,15 @@ fn ride(rt: &impl Print, block: &[u8]) -> io::Result<()> {
 
 // The block with its check made to fit again, as a sender with a fault of its own would make it.
 fn resealed(mut block: [u8; BLOCK]) -> [u8; BLOCK] {
-    let [first, second, third, fourth] = check::sum(&block).to_le_bytes();
-    block[508] = first;
-    block[509] = second;
-    block[510] = third;
-    block[511] = fourth;
+    let sum = check::sum(&block).to_le_bytes();
+    block[508..].copy_from_slice(&sum);
     block
 }
 
 // Damage on the way.
 fn damage(rt: &impl Print, block: &[u8; BLOCK]) -> io::Result<()> {
-    tell_reading(rt, "one byte lost", &block[0..511])?;
-    tell_reading(rt, "nothing came", &block[0..0])?;
+    tell_reading(rt, "one byte lost", &block[..511])?;
+    tell_reading(rt, "nothing came", &[])?;
     let mut altered = *block;
     altered[44] ^= 1;
     tell_reading(rt, "one byte altered", &altered)?;
@@ -227,17 +194,20 @@ fn damage(rt: &impl Print, block: &[u8; BLOCK]) -> io::Result<()> {
     let mut relaid = *block;
     relaid[3] = 4;
     tell_reading(rt, "class 4 under a fitting check", &resealed(relaid))?;
-    let names: &[u8] = NAMES;
-    tell_label(rt, "name sheet a byte short", block, &names[0..23])
+    tell_label(rt, "name sheet a byte short", block, &NAMES[..23])
 }
 
 // Fillings that are refused.
 fn refused_fillings(rt: &impl Print, block: &mut [u8; BLOCK]) -> io::Result<()> {
-    let mut unclassed = booking();
-    unclassed.class = 4;
+    let unclassed = Message {
+        class: 4,
+        ..booking()
+    };
     tell_filling(rt, "filling class 4", &unclassed, block)?;
-    let mut skipping = booking();
-    skipping.number = 2;
+    let skipping = Message {
+        number: 2,
+        ..booking()
+    };
     tell_filling(rt, "filling number 2 after none", &skipping, block)?;
     let mut short = [0u8; 100];
     match wire::fill(STATIONS, &booking(), NOTE, &mut short) {

@@ -1,9 +1,9 @@
 -- The lowest station of a set. Assumes nothing.
-use Rattle.std.specs.Prelude.{◌≡◌, ℕ, zero, suc, ◌<◌, ◌≤◌, Bool, true, false, not, ◌≢◌, nat_eq}
+use Rattle.std.specs.Prelude.{◌≡◌, ℕ, zero, suc, ◌<◌, ◌≤◌, Bool, true, false, not, Some, None, Option, MatchOption, ◌≢◌, nat_eq}
 use Rattle.std.proofs.Common.{⊎_elim, sym, ap, ◌∙◌, arith}
 use Rattle.std.proofs.lemmas.Bool.{and_from, and_left, and_right, cases_Bool, cases_eq, cases_lt, eq-eqb, ne_eqb, not_from_false, or_cases, true≢false}
 use Rattle.board.specs.Sets.{has, some, mask}
-use Rattle.board.proofs.Places.{some-from, some_not, some-none, some_more, mask-same}
+use Rattle.board.proofs.Places.{some-from, some_not, some-none, some-nothing, some_more, mask-same}
 use Rattle.board.proofs.Digits.{has-zero, mask_is}
 use Rattle.lone_source.specs.Lowest.{leads_set}
 
@@ -49,3 +49,15 @@ pub found_none : (set : ℕ) → some (has set) 16 ≡ false → 0 ≡ mask (lea
 found_none set none =
     mask_is (leads_set set) 16 0 (omega arith)
     (λ place h. has-zero place ∙ sym (and_left (has set place) (not (some (has set) place)) (some_not (has set) 16 place none h)))
+
+-- what a search of the places for the first of a set answers, told as a set
+pub lowest-is :
+    (set : ℕ) (found : Option ℕ) (answer : ℕ)
+    → MatchOption found ((k : ℕ) → 0 ≤ k → k < 16 → has set k ≡ false)
+    (λ place. (0 ≤ place) × (place < 16) × (has set place ≡ true) × ((k : ℕ) → 0 ≤ k → k < place → has set k ≡ false))
+    → MatchOption found (answer ≡ 0) (λ place. answer ≡ mask (λ other. nat_eq other place) 16)
+    → answer ≡ mask (leads_set set) 16
+lowest-is set None answer none is =
+    is ∙ found_none set (some-nothing (has set) 16 (λ k below. none k (omega arith) below))
+lowest-is set (Some place) answer first is =
+    is ∙ found_lowest set place first.1 first.2 (some-nothing (has set) place (λ k below. first.3 k (omega arith) below))

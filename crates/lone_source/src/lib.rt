@@ -34,10 +34,7 @@ impl<R: Rule> Rule for LoneSource<R> {
     }
 
     fn settle(&self, board: &Board) -> Option<u16> {
-        match self.below.settle(board) {
-            None => None,
-            Some(sources) => Some(lowest(sources)),
-        }
+        self.below.settle(board).map(lowest)
     }
 }
 
@@ -45,12 +42,9 @@ impl<R: Rule> Rule for LoneSource<R> {
 pub fn lowest(set: u16) -> u16
     ensures { result ≡ lowest_of set }
 {
-    for place in 0..STATIONS {
-        if holds(set, place) {
-            return alone(place);
-        }
-    }
-    0
+    (0..STATIONS)
+        .find(|place| holds(set, *place))
+        .map_or(0, alone)
 }
 
 #[cfg(test)]

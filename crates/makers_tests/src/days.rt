@@ -1,6 +1,6 @@
 // Books: days of orders with their replies.
 use books::book::post_all;
-use books::{Book, CabinBook, CabinReply, Slot, TillBook, TillWord};
+use books::{Book, CabinBook, CabinReply, Slot, TillBook, TillReply, TillWord};
 
 const CABIN_DAY: [([u8; 8], CabinReply); 26] = [
     ([1, 3, 5, 0, 44, 1, 10, 0], CabinReply::Done),
@@ -37,20 +37,16 @@ fn a_day_of_cabins(rt: HostRuntime) {
     for (order, reply) in CABIN_DAY {
         assert_eq!(rt; book.post(&order), reply);
     }
-    assert!(rt; matches!(book.slot(3, 5), Some(Slot::Ridden)));
-    assert!(rt;
-        matches!(
-            book.slot(14, 32),
-            Some(Slot::Assigned {
-                party: 1,
-                seats: 16,
-                cabin: 13
-            })
-        )
-    );
-    assert!(rt; matches!(book.slot(1, 1), Some(Slot::Free)));
-    assert!(rt; book.slot(15, 1).is_none());
-    assert!(rt; book.slot(1, 0).is_none());
+    assert_eq!(rt; book.slot(3, 5), Some(Slot::Ridden));
+    let assigned = Slot::Assigned {
+        party: 1,
+        seats: 16,
+        cabin: 13,
+    };
+    assert_eq!(rt; book.slot(14, 32), Some(assigned));
+    assert_eq!(rt; book.slot(1, 1), Some(Slot::Free));
+    assert_eq!(rt; book.slot(15, 1), None);
+    assert_eq!(rt; book.slot(1, 0), None);
     assert_eq!(rt; book.is_home(13), Some(false));
     assert_eq!(rt; book.is_home(21), Some(true));
     assert_eq!(rt; book.is_home(0), None);
@@ -96,9 +92,7 @@ const TILL_DAY: [([u8; 8], TillWord, u32); 12] = [
 fn a_day_at_the_till(rt: HostRuntime) {
     let mut till = TillBook::new();
     for (order, word, balance) in TILL_DAY {
-        let reply = till.post(&order);
-        assert_eq!(rt; reply.word, word);
-        assert_eq!(rt; reply.balance, balance);
+        assert_eq!(rt; till.post(&order), TillReply { word, balance });
         assert_eq!(rt; till.balance(), balance);
     }
 }
@@ -121,6 +115,6 @@ fn orders_add_up(rt: HostRuntime) {
 fn codes_and_numbers(rt: HostRuntime) {
     assert_eq!(rt; <CabinBook as Book>::highest_code(), 4);
     assert_eq!(rt; <TillBook as Book>::highest_code(), 3);
-    assert_eq!(rt; CabinReply::TooSmall as u8, 5);
+    assert_eq!(rt; u8::from(CabinReply::TooSmall), 5);
     assert_eq!(rt; TillWord::NotEnough as u8, 3);
 }

@@ -1,10 +1,9 @@
 -- When each answer of taking in a message, of offer, of show and of open comes. Assumes nothing.
-use Rattle.std.proofs.Common.{◌≡◌, ℕ, zero, suc, ◌<◌, ◌≤◌, Bool, true, false, cond, not, eqb, ltb, leb, ◌⊎◌, ◌↔◌, List, [], ◌∷◌, length, is_some, Some, None, Ok, Err, Decides, Option, Result, sym, refl, ap, ◌∙◌, subst, inl, inr, ⊎_elim, arith}
+use Rattle.std.proofs.Common.{◌≡◌, ℕ, zero, suc, ◌<◌, ◌≤◌, Bool, true, false, cond, not, eqb, ltb, ◌⊎◌, ◌↔◌, List, [], ◌∷◌, length, is_some, Some, None, Ok, Err, Decides, Option, Result, sym, refl, ap, ◌∙◌, subst, inl, inr, ⊎_elim, arith}
+use Rattle.std.proofs.lemmas.Grind.{common_steps}
 use Rattle.std.specs.List.{slice_get}
 use Rattle.std.proofs.lemmas.Option.{slice_get_past}
-use Rattle.std.proofs.lemmas.Bool.{and_from, and_parts, both_ways, cases_lt, eq-eqb, eqb-false, eqb-true, false≢true, le-leb, leb-true, lt-ltb, ltb-true, ne_eqb, not_from_false, not-true}
-use Rattle.std.proofs.lemmas.Bool.Decides.{nat_tests}
-use Rattle.board.specs.Ballots.{is_group}
+use Rattle.std.proofs.lemmas.Bool.{and_from, and_parts, both_ways, cases_lt, eqb-false, eqb-true, false≢true, lt-ltb, ltb-true, ne_eqb, not_from_false, not-true}
 use Rattle.board.proofs.Places.{some_at, some-from}
 use Rattle.wire.specs.Faults.{numbered}
 use Rattle.wire.specs.Format.{Contents, check_holds, contents_in, laid_out, read_layout, reading}
@@ -23,8 +22,7 @@ use Rattle.model.proofs.MessageFacts.{alike_decides, group_small, no_count-above
 -- Early: something that the message follows is not accepted.
 
 none_is : (found : Option Message) → not (is_some found) ≡ true → found ≡ None
-none_is None e = refl
-none_is (Some message) e = absurd (false≢true e)
+none_is = grind (arith, common_steps)
 
 is_none : (found : Option Message) → found ≡ None → not (is_some found) ≡ true
 is_none found e = ap (λ o. not (is_some o)) e
@@ -136,14 +134,7 @@ fails apart void = ((λ same. absurd (apart (ap refusal same))), (λ holds. absu
 
 -- what is found is one message, or none
 found_none : {X : Type 0} (found : Option X) (other : X) → found ≡ Some other → found ≡ None → ⊥
-found_none found other has none = let z : ◌≡◌ {A = ℕ} 0 1 = cc in omega arith
-
-found_alike :
-    (message : Message) (found : Option Message) (other another : Message) → found ≡ Some other
-    → found ≡ Some another → Alike message other → Alike message another
-found_alike message found other another has also same =
-    let one : other ≡ another = cc in
-    subst (Alike message) one same
+found_none found other has none = cc
 
 -- a test that decides, once it is known
 holds : {P : Type 0} → Decides true P → P
@@ -164,24 +155,7 @@ module _ (state : State) (message : Message) where
   again_answers :
       (other : Message) → found ≡ Some other → (same : Bool) → Decides same (Alike message other)
       → TakeAnswers state message (told state (cond same (Err Repeat) (Err Clash)))
-  again_answers other has true same =
-      record {
-        repeat = comes refl (other, has, holds same);
-        clash = fails (omega arith) (λ c. c.2 (found_alike message found other c.0 has c.1 (holds same)));
-        early = fails (omega arith) (λ new. found_none found other has new.0);
-        crossed = fails (omega arith) (λ new. found_none found other has new.0);
-        full = fails (omega arith) (λ new. found_none found other has new.0);
-        done = fails (omega arith) (λ new. found_none found other has new.0);
-      }
-  again_answers other has false same =
-      record {
-        repeat = fails (omega arith) (λ r. holds_not same (found_alike message found r.0 other r.1 has r.2));
-        clash = comes refl (other, has, holds_not same);
-        early = fails (omega arith) (λ new. found_none found other has new.0);
-        crossed = fails (omega arith) (λ new. found_none found other has new.0);
-        full = fails (omega arith) (λ new. found_none found other has new.0);
-        done = fails (omega arith) (λ new. found_none found other has new.0);
-      }
+  again_answers = grind (arith, common_steps)
 
   -- none is
   fresh_answers :
@@ -227,10 +201,7 @@ module _ (state : State) (message : Message) where
       }
 
   room_decides : Decides (is_full state) (HasNoRoom state)
-  room_decides =
-      let table = state.settings.table in
-      let many = length state.accepted in
-      (leb-true table many, le-leb table many)
+  room_decides = grind (arith, common_steps)
 
   taken_answers :
       Decides (early (known state) message) (LacksSome state message)
@@ -254,22 +225,8 @@ abbrev OfTaking : ℕ → Type 0
 OfTaking number = (number ≤ 8) × ((number ≡ 0) ⊎ (4 ≤ number))
 
 module _ (state : State) (message : Message) where
-  again_number : (same : Bool) → OfTaking (refusal (told state (cond same (Err Repeat) (Err Clash))))
-  again_number true = (omega arith, inr (omega arith))
-  again_number false = (omega arith, inr (omega arith))
-
-  fresh_number :
-      (lacks crossing full : Bool)
-      → OfTaking
-      (refusal (told state (cond lacks (Err Early) (cond crossing (Err Crossed) (cond full (Err Full) (Ok message))))))
-  fresh_number true crossing full = (omega arith, inr (omega arith))
-  fresh_number false true full = (omega arith, inr (omega arith))
-  fresh_number false false true = (omega arith, inr (omega arith))
-  fresh_number false false false = (omega arith, inl refl)
-
   taken_number : (other : Option Message) → OfTaking (refusal (told state (taken state message other)))
-  taken_number (Some other) = again_number (alike message other)
-  taken_number None = fresh_number (early (known state) message) (crossed (known state) message) (is_full state)
+  taken_number = grind (arith, common_steps)
 
 reading-number : (block : List ℕ) → refusal (reading block) ≤ 3
 unfolding reading read_layout
@@ -293,24 +250,11 @@ never apart same = absurd (apart (ap refusal same))
 -- a block reads well, or is refused
 read_one :
     (read : Result Contents Fault) (contents : Contents) (fault : Fault) → read ≡ Ok contents → read ≡ Err fault → ⊥
-read_one read contents fault well ill = let z : ◌≡◌ {A = ℕ} 0 1 = cc in omega arith
+read_one read contents fault well ill = cc
 
 module _ (state : State) (block : List ℕ) where
   shut_answers : is_shut state ≡ true → OfferAnswers state block (Err Setting)
-  shut_answers shut =
-      record {
-        setting = comes refl shut;
-        length = fails (omega arith) (λ p. both_ways (is_shut state) p.0 shut);
-        check = fails (omega arith) (λ p. both_ways (is_shut state) p.0 shut);
-        layout = fails (omega arith) (λ p. both_ways (is_shut state) p.0 shut);
-        carried = λ message carries. absurd (both_ways (is_shut state) carries.live shut);
-        repeat = never (omega arith);
-        clash = never (omega arith);
-        early = never (omega arith);
-        crossed = never (omega arith);
-        full = never (omega arith);
-        done = never (omega arith);
-      }
+  shut_answers shut = grind (arith, common_steps)
 
   -- the block is refused with some fault: so is the call
   refused_as :
@@ -339,7 +283,7 @@ module _ (state : State) (block : List ℕ) where
         early = never (omega arith);
         crossed = never (omega arith);
         full = never (omega arith);
-        done = λ same. let z : ◌≡◌ {A = ℕ} 0 1 = cc in absurd (omega arith);
+        done = λ same. cc;
       }
 
   module _ (contents : Contents) (live : is_shut state ≡ false) (read : reading block ≡ Ok contents) where
@@ -430,9 +374,7 @@ module _ (state : State) where
 
   -- a place that has no entry
   beyond_none : (place : ℕ) → (place ≡ 0) ⊎ (length state.roll < place) → entry_at state.roll place ≡ None
-  beyond_none zero beyond = refl
-  beyond_none (suc before) (inl first) = absurd (omega arith)
-  beyond_none (suc before) (inr past) = slice_get_past state.roll before (omega arith)
+  beyond_none = grind (arith, common_steps, slice_get_past)
 
   none_beyond : (place : ℕ) → entry_at state.roll place ≡ None → (place ≡ 0) ⊎ (length state.roll < place)
   none_beyond zero none = inl refl
@@ -448,26 +390,7 @@ module _ (state : State) where
   showing_answers :
       (place : ℕ) (shut : Bool) → is_shut state ≡ shut → (found : Option Entry) → entry_at state.roll place ≡ found
       → ShowAnswers state place (shown_answer shut found)
-  showing_answers place true shut found is =
-      record {
-        setting = comes refl shut;
-        beyond = fails (omega arith) (λ p. both_ways (is_shut state) p.0 shut);
-        entry = λ entry. fails (omega arith) (λ p. both_ways (is_shut state) p.0 shut);
-      }
-  showing_answers place false live None none =
-      record {
-        setting = fails (omega arith) (λ shut. both_ways (is_shut state) live shut);
-        beyond = comes refl (live, none_beyond place none);
-        entry = λ other. fails (omega arith) (λ p. found_none (entry_at state.roll place) other p.1 none);
-      }
-  showing_answers place false live (Some found) has =
-      record {
-        setting = fails (omega arith) (λ shut. both_ways (is_shut state) live shut);
-        beyond = fails (omega arith) (λ p. found_none (entry_at state.roll place) found has (beyond_none place p.1));
-        entry =
-            λ other.
-            ((λ same. (live, (cc))), (λ p. let also : entry_at state.roll place ≡ Some other = p.1 in cc));
-      }
+  showing_answers = grind (arith, common_steps, comes, fails, both_ways, none_beyond, found_none, beyond_none)
 
   pub show_answers : (place : ℕ) → ShowAnswers state place (show_of state place).answer
   show_answers place = showing_answers place (is_shut state) refl (entry_at state.roll place) refl
@@ -475,40 +398,12 @@ module _ (state : State) where
 -- Open.
 
 lawful_decides : (settings : Settings) → Decides (may_open settings) (IsLawful settings)
-lawful_decides settings = (parts, whole)
-  where
-    parts : may_open settings ≡ true → IsLawful settings
-    parts e =
-        record {
-          some_stations = grind (arith, nat_tests);
-          few_stations = grind (arith, nat_tests);
-          own_first = grind (arith, nat_tests);
-          own_last = grind (arith, nat_tests);
-          one_length = grind (arith, nat_tests);
-          some_places = grind (arith, nat_tests);
-          few_places = grind (arith, nat_tests);
-        }
-
-    whole : IsLawful settings → may_open settings ≡ true
-    whole lawful =
-        and_from (is_group settings.n) _
-        (and_from (leb 1 settings.n) (leb settings.n 16) (le-leb 1 settings.n lawful.some_stations) (le-leb settings.n 16 lawful.few_stations))
-        (and_from (leb 1 settings.own) _ (le-leb 1 settings.own lawful.own_first)
-        (and_from (leb settings.own settings.n) _ (le-leb settings.own settings.n lawful.own_last)
-        (and_from (eqb settings.table settings.roll) _ (eq-eqb settings.table settings.roll lawful.one_length)
-        (and_from (leb 1 settings.table) (leb settings.table 4096) (le-leb 1 settings.table lawful.some_places)
-        (le-leb settings.table 4096 lawful.few_places)))))
+lawful_decides settings = grind (arith, common_steps)
 
 opening_answers :
     (settings : Settings) (lawful : Bool) → Decides lawful (IsLawful settings)
     → OpenAnswers settings (cond lawful (Ok tt) (Err Setting))
-opening_answers settings true lawful =
-    record {
-      done = comes refl (holds lawful);
-      setting = fails (omega arith) (λ unlawful. unlawful (holds lawful));
-    }
-opening_answers settings false lawful =
-    record { done = fails (omega arith) (holds_not lawful); setting = comes refl (holds_not lawful) }
+opening_answers = grind (arith, common_steps)
 
 pub open_answers : (settings : Settings) → OpenAnswers settings (open_answer settings)
 open_answers settings = opening_answers settings (may_open settings) (lawful_decides settings)

@@ -1,7 +1,8 @@
 -- Orderly messages give a board, whatever is released. Assumes nothing.
-use Rattle.std.proofs.Common.{◌≡◌, ℕ, zero, suc, ◌+◌, ◌^◌, ◌<◌, Bool, true, false, cond, not, ◌&&◌, eqb, leb, ◌⊎◌, List, length, is_some, Some, None, Ok, Option, sym, refl, ap, ◌∙◌, ap₂, inl, inr, ⊎_elim, pow-suc, arith, pow_pos, pow_mono}
+use Rattle.std.proofs.Common.{◌≡◌, ℕ, zero, suc, ◌+◌, ◌^◌, ◌<◌, Bool, true, false, cond, not, ◌&&◌, eqb, leb, ◌⊎◌, List, length, Some, Ok, Option, sym, refl, ap, ◌∙◌, ap₂, inl, inr, ⊎_elim, pow-suc, arith, pow_pos, pow_mono}
+use Rattle.std.proofs.lemmas.Grind.{common_steps}
 use Rattle.std.proofs.lemmas.List.FromFn.{get_or-map-range_with_len, length-map-range_with_len}
-use Rattle.std.proofs.lemmas.Bool.{and_from, and_parts, cases_Bool, eq-eqb, le-leb, lt-ltb, or_left, or_right, true≢false}
+use Rattle.std.proofs.lemmas.Bool.{and_from, cases_Bool, eq-eqb, le-leb, lt-ltb, or_left, or_right, true≢false}
 use Rattle.board.proofs.Digits.{has-mask, has-zero, mask_below, mask_is}
 use Rattle.board.proofs.Places.{all_from, some-from}
 use Rattle.board.specs.Ballots as ballots
@@ -35,20 +36,7 @@ mask_fits test (suc bound) n low =
     by_test false here inside below = omega (arith, below)
 
 implies-from : (premise conclusion : Bool) → (premise ≡ true → conclusion ≡ true) → implies premise conclusion ≡ true
-implies-from true conclusion into = into refl
-implies-from false conclusion into = refl
-
--- who backs a head has a head
-backs-some : (own other : Option Message) → backs own other ≡ true → is_some own ≡ true
-backs-some (Some own) other e = refl
-backs-some None other e = absurd (true≢false (sym e))
-
-backs-itself :
-    (released : Released) (found : Option Message) → ready_head released found ≡ true → backs found found ≡ true
-backs-itself released (Some message) e =
-    or_left (eqb message.station message.station) (follows message message)
-    (eq-eqb message.station message.station refl)
-backs-itself released None e = absurd (true≢false (sym e))
+implies-from = grind (arith, common_steps)
 
 module _ (accepted : Accepted) (released : Released) where
   -- the heads, votes and sets of the section's messages
@@ -73,16 +61,11 @@ module _ (accepted : Accepted) (released : Released) where
 
   -- only present stations vote
   voter_present : (voter station : ℕ) → votes voter station ≡ true → is_present voter ≡ true
-  voter_present voter station e =
-      backs-some (head_of voter) (head_of station)
-      (and_parts (stands station) (backs (head_of voter) (head_of station)) e).1
+  voter_present voter station e = grind (arith, common_steps)
 
   -- where anybody votes, the candidate's own station does
   own_vote : (voter station : ℕ) → votes voter station ≡ true → votes station station ≡ true
-  own_vote voter station e =
-      let ready = (and_parts (stands station) (backs (head_of voter) (head_of station)) e).0 in
-      and_from (stands station) (backs (head_of station) (head_of station)) ready
-      (backs-itself released (head_of station) ready)
+  own_vote voter station e = grind (arith, common_steps)
 
   -- The sets, by these tests.
 
@@ -103,11 +86,7 @@ module _ (accepted : Accepted) (released : Released) where
   present_in place below = has-mask (λ k. is_present (suc k)) 16 place below
 
   present_votes : (place : ℕ) → place < 16 → present_vote present voters place ≡ true
-  present_votes place below =
-      all_from (λ k. implies (has (votes_for voters place) k) (has present k)) 16
-      (λ k small.
-      implies-from (has (votes_for voters place) k) (has present k)
-      (λ e. present_in k small ∙ voter_present (suc k) (suc place) (sym (voter_in place k below small) ∙ e)))
+  present_votes place below = grind (arith, common_steps, all_from, implies-from, present_in, voter_present, voter_in)
 
   itself_votes : (place : ℕ) → place < 16 → votes_for_itself voters place ≡ true
   itself_votes place below =
@@ -203,10 +182,10 @@ made :
     (n present : ℕ) (voters : List ℕ) (group holds : Bool)
     (g : is_group n ≡ group) (h : is_board n present voters ≡ holds)
     → group ≡ true → holds ≡ true → (board : Board) × (board_decided n present voters group holds g h ≡ Ok board)
-made n present voters true true g h is_one is-so =
-    (record { n = n; present = present; voters = voters; group = g; holds = h }, refl)
-made n present voters true false g h is_one is-so = absurd (true≢false (sym is-so))
-made n present voters false holds g h is_one is-so = absurd (true≢false (sym is_one))
+made n those sets true true g h is_one is-so =
+    (record { n = n; present = those; voters = sets; group = g; holds = h }, refl)
+made n those sets true false g h is_one is-so = absurd (true≢false (sym is-so))
+made n those sets false holds g h is_one is-so = absurd (true≢false (sym is_one))
 
 pub boards_are_there : BoardsAreThere
 boards_are_there n accepted released group orderly =

@@ -1,20 +1,20 @@
 -- What a message that is taken in has passed. Assumes nothing.
-use Rattle.std.proofs.Common.{◌≡◌, ℕ, ◌<◌, Bool, true, false, cond, eqb, List, length, Some, None, Ok, Err, Option, Result, sym, refl, ◌∙◌, ap₂, arith}
-use Rattle.std.proofs.lemmas.Bool.{eqb-true, leb-false}
+use Rattle.std.proofs.Common.{◌≡◌, ℕ, ◌<◌, Bool, true, false, cond, eqb, List, length, None, Ok, Err, Result, sym, refl, ◌∙◌, ap₂, arith}
+use Rattle.std.proofs.lemmas.Grind.{common_steps}
+use Rattle.std.proofs.lemmas.Bool.{eqb-true}
 use Rattle.wire.specs.Format.{Contents, reading}
 use Rattle.wire.specs.Messages.{well_formed}
 use Rattle.wire.specs.declared.fault.Fault.{Fault}
-use Rattle.wire.specs.declared.fault.Fault.TheVariants.{Layout, Repeat, Clash, Early, Crossed, Full, Setting}
+use Rattle.wire.specs.declared.fault.Fault.TheVariants.{Layout, Setting}
 use Rattle.wire.specs.declared.message.Message.{Message}
 use Rattle.model.specs.Accepted.{crossed, early}
-use Rattle.model.specs.Calls.{carried_message, for_group, take_decided, taken}
-use Rattle.model.specs.Following.{alike}
-use Rattle.model.specs.States.{State, is_full, is_shut, known}
+use Rattle.model.specs.Calls.{carried_message, for_group, take_decided}
+use Rattle.model.specs.States.{State, is_shut, known}
 use Rattle.model.proofs.MessageFacts.{well-reads}
 
 -- a refusal is no message
 pub never-taken : {A : Type 0} (fault : Fault) (value : A) → ◌≡◌ {A = Result A Fault} (Err fault) (Ok value) → ⊥
-never-taken fault value e = let z : ◌≡◌ {A = ℕ} 0 1 = cc in omega arith
+never-taken fault value e = grind (arith, common_steps)
 
 pub record Passed (state : State) (message : Message) : Type 0 where
   pub fresh : known state message.station message.number ≡ None
@@ -23,28 +23,7 @@ pub record Passed (state : State) (message : Message) : Type 0 where
   pub room : length state.accepted < state.settings.table
 
 pub passed : (state : State) (message result : Message) → take_decided state message ≡ Ok result → Passed state message
-passed state message result e = found (known state message.station message.number) refl e
-  where
-    tested :
-        (a b c : Bool) → early (known state) message ≡ a → crossed (known state) message ≡ b → is_full state ≡ c
-        → known state message.station message.number ≡ None
-        → cond a (Err Early) (cond b (Err Crossed) (cond c (Err Full) (Ok message))) ≡ Ok result → Passed state message
-    tested true b c x y z none e = absurd (never-taken Early result e)
-    tested false true c x y z none e = absurd (never-taken Crossed result e)
-    tested false false true x y z none e = absurd (never-taken Full result e)
-    tested false false false x y z none e =
-        record { fresh = none; timely = x; straight = y; room = leb-false state.settings.table (length state.accepted) z }
-
-    refused : (a : Bool) → cond a (Err Repeat) (Err Clash) ≡ Ok result → ⊥
-    refused true e = never-taken Repeat result e
-    refused false e = never-taken Clash result e
-
-    found :
-        (o : Option Message) → known state message.station message.number ≡ o → taken state message o ≡ Ok result
-        → Passed state message
-    found (Some other) o e = absurd (refused (alike message other) e)
-    found None o e =
-        tested (early (known state) message) (crossed (known state) message) (is_full state) refl refl refl o e
+passed state message result e = grind (arith, common_steps)
 
 -- what a carried message has passed: the station is open, and the message is well formed for its group
 pub record Carried (state : State) (message : Message) : Type 0 where

@@ -1,6 +1,7 @@
 -- Orderly messages: a message has no smaller count than any that it follows, and each head is a candidate or
 -- follows one. Assumes nothing.
-use Rattle.std.proofs.Common.{◌≡◌, ℕ, zero, suc, ◌+◌, ◌-◌, ◌<◌, ◌≤◌, true, false, leb, ◌⊎◌, is_some, Some, None, Option, sym, refl, ap, ◌∙◌, subst, inl, inr, ⊎_elim, arith}
+use Rattle.std.proofs.Common.{◌≡◌, ℕ, zero, suc, ◌+◌, ◌-◌, ◌<◌, ◌≤◌, true, false, leb, ◌⊎◌, is_some, Some, Option, sym, refl, ap, ◌∙◌, subst, inl, inr, ⊎_elim, arith}
+use Rattle.std.proofs.lemmas.Grind.{common_steps}
 use Rattle.std.proofs.lemmas.Bool.{cases_Bool, cases_eq, leb-false, true≢false}
 use Rattle.board.proofs.Places.{all_not}
 use Rattle.wire.specs.Words.{sum_below}
@@ -13,8 +14,7 @@ use Rattle.model.proofs.Formed.{formed}
 
 -- what is there is some message
 pub some-message : (found : Option Message) → is_some found ≡ true → (message : Message) × (found ≡ Some message)
-some-message (Some message) e = (message, refl)
-some-message None e = absurd (true≢false (sym e))
+some-message = grind (arith, common_steps, true≢false)
 
 -- Sums of terms in order.
 

@@ -1,5 +1,6 @@
 -- What a well-formed message says of itself, fact by fact. Assumes nothing.
-use Rattle.std.proofs.Common.{◌≡◌, ℕ, zero, suc, ◌-◌, ◌≤◌, true, get_or, ap, ◌∙◌, arith}
+use Rattle.std.proofs.Common.{◌≡◌, ℕ, zero, suc, ◌-◌, ◌≤◌, true, get_or, ap, arith}
+use Rattle.std.proofs.lemmas.Grind.{common_steps}
 use Rattle.std.proofs.lemmas.Bool.Decides.{nat_tests}
 use Rattle.wire.specs.Messages.{count, counts_fit, well_formed}
 use Rattle.wire.specs.declared.message.Message.{Message}
@@ -25,15 +26,4 @@ pub record Formed (n : ℕ) (message : Message) : Type 0 where
   pub fit : counts_fit n message.after ≡ true
 
 pub formed : (n : ℕ) (message : Message) → well_formed n message ≡ true → Formed n message
-formed n message well =
-    let from_one : 1 ≤ message.station = grind (arith, nat_tests) in
-    record {
-      group = grind (arith, nat_tests);
-      from_one = from_one;
-      member = grind (arith, nat_tests);
-      numbered = grind (arith, nat_tests);
-      few = grind (arith, nat_tests);
-      class = grind (arith, nat_tests);
-      own = count_same message message.station from_one ∙ grind (arith, nat_tests);
-      fit = grind (arith, nat_tests);
-    }
+formed n message well = grind (arith, common_steps, count_same, nat_tests)

@@ -1,6 +1,7 @@
 -- What a station keeps when it is opened and when it accepts a message. Assumes nothing.
-use Rattle.std.proofs.Common.{◌≡◌, ℕ, zero, suc, ◌+◌, ◌<◌, ◌≤◌, true, false, cond, not, eqb, ltb, ◌⊎◌, List, [], ◌∷◌, ◌++◌, is_some, Some, None, Option, sym, refl, ap, ◌∙◌, subst, ap₂, inl, inr, ⊎_elim, le_trans, le_refl, arith}
-use Rattle.std.proofs.lemmas.Bool.{and_cases, and_parts, cases_Bool, cases_lt, eq-eqb, eqb-true, eqb-false, ltb-false, not-false, true≢false}
+use Rattle.std.proofs.Common.{◌≡◌, ℕ, zero, suc, ◌+◌, ◌<◌, ◌≤◌, true, false, cond, not, eqb, ltb, ◌⊎◌, List, [], ◌∷◌, ◌++◌, is_some, Some, None, Option, sym, refl, ap, ◌∙◌, subst, ⊎_elim, le_trans, arith}
+use Rattle.std.proofs.lemmas.Grind.{common_steps}
+use Rattle.std.proofs.lemmas.Bool.{and_cases, cases_Bool, cases_lt, eq-eqb, eqb-true, eqb-false, ltb-false, not-false, true≢false}
 use Rattle.board.proofs.Places.{one, some_not}
 use Rattle.wire.specs.Messages.{well_formed}
 use Rattle.wire.specs.declared.message.Message.{Message}
@@ -19,50 +20,22 @@ unfolding accepted_as
 nothing-found station number = refl
 
 some-none : {A : Type 0} (message : A) (o : Option A) → o ≡ None → o ≡ Some message → ⊥
-some-none message o none found = let z : ◌≡◌ {A = ℕ} 0 1 = cc in omega arith
+some-none message o none found = cc
 
 -- Opening.
 
 gapless-none : Gapless []
 unfolding accepted_as tally
-gapless-none station number = ((λ e. absurd (true≢false (sym e))), (λ h. absurd (never h.0 h.1)))
-  where
-    never : 1 ≤ number → number ≤ 0 → ⊥
-    never first none = omega arith
+gapless-none station number = grind (arith, common_steps)
 
 pub sound-opened : (settings : Settings) → Sound (opened settings)
-sound-opened settings =
-    record {
-      kept =
-          record {
-            orderly =
-                record {
-                  named = λ station number message e. absurd (some-none message (accepted_as [] station number) (nothing-found station number) e);
-                  well = λ station number message e. absurd (some-none message (accepted_as [] station number) (nothing-found station number) e);
-                  closed =
-                      λ station number message other before e follows.
-                      absurd (some-none message (accepted_as [] station number) (nothing-found station number) e);
-                  uncrossed =
-                      λ station number message other followed third e f.
-                      absurd (some-none message (accepted_as [] station number) (nothing-found station number) e);
-                };
-            gapless = gapless-none;
-            each_well = λ message on. absurd on;
-          };
-      begun = record { accepted = λ message on. absurd on; gapless = gapless-none };
-      waves = omega arith;
-    }
+sound-opened settings = grind (arith, common_steps, some-none, nothing-found, gapless-none)
 
 -- Accepting a message that is well formed, new, not early and not crossed.
 
 named-parts :
     (m : Message) (station number : ℕ) → is_named m station number ≡ true → (m.station ≡ station) × (m.number ≡ number)
-named-parts m station number e =
-    let both = and_parts (eqb m.station station) (eqb m.number number) e in
-    (eqb-true m.station station both.0, eqb-true m.number number both.1)
-
-is-some-from : {A : Type 0} (message : A) (o : Option A) → o ≡ Some message → is_some o ≡ true
-is-some-from message o e = ap is_some e
+named-parts m station number e = grind (arith, common_steps)
 
 module _
     (n : ℕ) (ms : List Message) (m : Message) (kept : Kept n ms)
@@ -90,25 +63,11 @@ module _
 
   -- its number is the next of its station
   next_number : m.number ≡ suc (tally ms m.station)
-  next_number =
-      let own = own_count n m well in
-      let have = enough m.station in
-      let first = number_first n m well in
-      ⊎_elim (λ old. absurd (some_there ((kept.gapless m.station m.number).1 (first, still old)))) (λ new. omega arith)
-      (cases_lt m.number (suc (tally ms m.station)))
-    where
-      still : m.number < suc (tally ms m.station) → m.number ≤ tally ms m.station
-      still h = omega arith
-
-      some_there : is_some (accepted_as ms m.station m.number) ≡ true → ⊥
-      some_there e = true≢false (sym e ∙ ap is_some fresh)
+  next_number = grind (arith, common_steps, own_count, enough, number_first, cases_lt, true≢false)
 
   -- a message under another name is found as before, and one that was found still is
   stays : (station number : ℕ) → is_some (accepted_as ms station number) ≡ true → is_some (accepted_as (ms ++ m ∷ []) station number) ≡ true
-  stays station number e =
-      ⊎_elim (λ here. ap is_some (accepted_new ms m station number here))
-      (λ other. ap is_some (accepted_old ms m station number other) ∙ e)
-      (cases_Bool (is_named m station number))
+  stays station number e = grind (arith, common_steps, accepted_new, accepted_old, cases_Bool)
 
   gapless_more : Gapless (ms ++ m ∷ [])
   gapless_more station number =
@@ -159,20 +118,11 @@ module _
   found_before :
       (station number : ℕ) (x : Message) → accepted_as (ms ++ m ∷ []) station number ≡ Some x
       → ((is_named m station number ≡ true) × (x ≡ m)) ⊎ (accepted_as ms station number ≡ Some x)
-  found_before station number x e =
-      ⊎_elim (λ here. inl (here, itself here)) (λ other. inr (sym (accepted_old ms m station number other) ∙ e))
-      (cases_Bool (is_named m station number))
-    where
-      itself : is_named m station number ≡ true → x ≡ m
-      itself here = let new = accepted_new ms m station number here in cc
+  found_before station number x e = grind (arith, common_steps, accepted_old, cases_Bool, accepted_new)
 
   -- what it follows is under another name than its own
   not_itself : (station : ℕ) → is_named m station (count_of m station) ≡ true → ⊥
-  not_itself station here =
-      let same = named-parts m station (count_of m station) here in
-      let own = own_count n m well in
-      let at = ap (count_of m) same.0 in
-      omega (arith, same.1)
+  not_itself station here = grind (arith, common_steps, named-parts, own_count)
 
   -- the last message of a station that it follows has no larger count
   no_larger :
@@ -220,14 +170,7 @@ module _
   -- what an accepted message follows is under another name than the new one
   apart : (station number : ℕ) (x : Message) (other : ℕ)
       → accepted_as ms station number ≡ Some x → is_named m other (count_of x other) ≡ true → ⊥
-  apart station number x other e here =
-      let same = named-parts m other (count_of x other) here in
-      let first = number_first n m well in
-      let there = kept.orderly.closed station number x other (count_of x other) e (at_least first same.1, le_refl _) in
-      true≢false (sym there ∙ ap is_some (ap₂ (accepted_as ms) (sym same.0) (sym same.1) ∙ fresh))
-    where
-      at_least : 1 ≤ m.number → m.number ≡ count_of x other → 1 ≤ count_of x other
-      at_least first same = omega arith
+  apart station number x other e here = grind (arith, common_steps)
 
   orderly_more : Orderly n (accepted_as (ms ++ m ∷ []))
   orderly_more =
@@ -278,32 +221,10 @@ module _
           (found_before other (count_of x other) followed f)
 
   pub kept_more : Kept n (ms ++ m ∷ [])
-  kept_more =
-      record {
-        orderly = orderly_more;
-        gapless = gapless_more;
-        each_well =
-            λ x on. ⊎_elim (λ old. kept.each_well x old) (λ new. ap (well_formed n) new ∙ well) (on_push ms m x on);
-      }
+  kept_more = grind (arith, common_steps, orderly_more, gapless_more, on_push)
 
   pub begun_more : (roll : List Message) → Begun ms roll → Begun (ms ++ m ∷ []) roll
-  begun_more roll begun =
-      record {
-        accepted =
-            λ x on.
-            let e = begun.accepted x on in
-            ⊎_elim (λ here. absurd (unheard x e (named-parts m x.station x.number here)))
-            (λ other. accepted_old ms m x.station x.number other ∙ e)
-            (cases_Bool (is_named m x.station x.number));
-        gapless = begun.gapless;
-      }
-    where
-      unheard :
-          (x : Message) → accepted_as ms x.station x.number ≡ Some x
-          → (m.station ≡ x.station) × (m.number ≡ x.number) → ⊥
-      unheard x e same =
-          some-none x (accepted_as ms x.station x.number)
-          (ap₂ (accepted_as ms) (sym same.0) (sym same.1) ∙ fresh) e
+  begun_more roll begun = grind (arith, common_steps, named-parts, accepted_old, cases_Bool, some-none)
 
 pub sound-accepting :
     (state : State) (m : Message) → Sound state → well_formed state.settings.n m ≡ true

@@ -1,5 +1,4 @@
 pub mod MessageFacts
-pub mod Same
 pub mod Counts
 pub mod Pushed
 pub mod Keeping

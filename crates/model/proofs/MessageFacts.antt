@@ -1,5 +1,6 @@
 -- What holds of messages that are alike, and of messages that are well formed for a group. Assumes nothing.
-use Rattle.std.proofs.Common.{◌≡◌, ℕ, zero, suc, ◌+◌, ◌-◌, ◌<◌, ◌≤◌, true, ◌&&◌, eqb, leb, List, length, get_or, drop, Ok, Decides, sym, refl, ap, ◌∙◌, ⊎_elim, arith, rules}
+use Rattle.std.proofs.Common.{◌≡◌, ℕ, zero, suc, ◌+◌, ◌-◌, ◌<◌, ◌≤◌, true, ◌&&◌, leb, List, length, get_or, drop, Ok, Decides, sym, refl, ap, ◌∙◌, ⊎_elim, arith, rules}
+use Rattle.std.proofs.lemmas.Grind.{common_steps}
 use Rattle.std.specs.List.{between}
 use Rattle.std.proofs.lemmas.Slice.Eq.{compares_Decides}
 use Rattle.std.proofs.lemmas.List.{get_or-drop, get_or_past}
@@ -19,16 +20,7 @@ pub same_decides : (xs ys : List ℕ) → Decides (same_numbers xs ys) (xs ≡ y
 same_decides = compares_Decides same_numbers (search rules)
 
 pub alike_decides : (message other : Message) → Decides (alike message other) (Alike message other)
-alike_decides message other =
-    let after = same_decides message.after other.after in
-    let class = Decides-eqb message.class other.class in
-    let order = same_decides message.order other.order in
-    Decides-like (alike message other)
-    (λ same. record { after = same.0; class = same.1.0; order = same.1.1 })
-    (λ same. (same.after, (same.class, same.order)))
-    (Decides-and (same_numbers message.after other.after)
-    (eqb message.class other.class && same_numbers message.order other.order) after
-    (Decides-and (eqb message.class other.class) (same_numbers message.order other.order) class order))
+alike_decides message other = grind (arith, common_steps, same_decides, Decides-eqb, Decides-like, Decides-and)
 
 -- Messages that are well formed.
 
@@ -74,9 +66,6 @@ module _ (n : ℕ) (m : Message) where
 
   pub number_first : well_formed n m ≡ true → 1 ≤ m.number
   number_first well = grind (arith, nat_tests)
-
-  pub number_last : well_formed n m ≡ true → m.number ≤ 4096
-  number_last well = grind (arith, nat_tests)
 
   -- it follows all that its own station said before, and no more
   pub own_count : well_formed n m ≡ true → suc (count_of m m.station) ≡ m.number

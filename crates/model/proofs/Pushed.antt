@@ -1,5 +1,6 @@
 -- One message more at the end of a list: look-ups and tallies. Assumes nothing.
 use Rattle.std.proofs.Common.{◌≡◌, ℕ, ◌+◌, ◌≤◌, Bool, true, false, cond, eqb, ◌⊎◌, List, [], ◌∷◌, ◌++◌, length, Some, None, Option, sym, refl, ap, ◌∙◌, inl, inr, ⊎_elim, arith}
+use Rattle.std.proofs.lemmas.Grind.{common_steps}
 use Rattle.std.proofs.lemmas.Bool.{and_parts, eqb-true}
 use Rattle.wire.specs.declared.message.Message.{Message}
 use Rattle.model.specs.Accepted.{accepted_as, is_named, or_else, tally}
@@ -26,16 +27,12 @@ accepted-push (first ∷ rest) message station number =
 pub accepted_old :
     (messages : List Message) (message : Message) (station number : ℕ) → is_named message station number ≡ false
     → accepted_as (messages ++ message ∷ []) station number ≡ accepted_as messages station number
-accepted_old messages message station number e =
-    accepted-push messages message station number
-    ∙ ap (λ here. cond here (Some message) (accepted_as messages station number)) e
+accepted_old messages message station number e = grind (arith, common_steps, accepted-push)
 
 pub accepted_new :
     (messages : List Message) (message : Message) (station number : ℕ) → is_named message station number ≡ true
     → accepted_as (messages ++ message ∷ []) station number ≡ Some message
-accepted_new messages message station number e =
-    accepted-push messages message station number
-    ∙ ap (λ here. cond here (Some message) (accepted_as messages station number)) e
+accepted_new messages message station number e = grind (arith, common_steps, accepted-push)
 
 pub tally-push :
     (messages : List Message) (message : Message) (station : ℕ)
@@ -65,7 +62,7 @@ pub found-is :
     (messages : List Message) (station number : ℕ) (message : Message)
     → accepted_as messages station number ≡ Some message → Found messages station number message
 unfolding accepted_as
-found-is [] station number message e = absurd (let z : ◌≡◌ {A = ℕ} 0 1 = cc in omega arith)
+found-is [] station number message e = cc
 found-is (first ∷ rest) station number message e =
     later (accepted_as rest station number) refl (found-is rest station number message) e
   where
@@ -78,7 +75,7 @@ found-is (first ∷ rest) station number message e =
           number_is = sym (ap (λ m. m.number) same) ∙ eqb-true first.number number parts.1;
           listed = inl (sym same);
         }
-    here false named e = absurd (let z : ◌≡◌ {A = ℕ} 0 1 = cc in omega arith)
+    here false named e = cc
 
     later :
         (o : Option Message) → accepted_as rest station number ≡ o

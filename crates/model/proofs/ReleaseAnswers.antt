@@ -1,5 +1,6 @@
 -- When each answer of release comes. Assumes nothing.
 use Rattle.std.proofs.Common.{◌≡◌, ℕ, Bool, true, false, cond, ◌&&◌, eqb, ◌⊎◌, List, length, Some, None, Ok, Err, Option, Result, sym, refl, ap, ◌∙◌, subst, inl, inr, ⊎_elim, arith}
+use Rattle.std.proofs.lemmas.Grind.{common_steps}
 use Rattle.std.proofs.lemmas.Bool.{both_ways, eqb-false, eqb-true}
 use Rattle.board.specs.Rules.{RuleMeaning}
 use Rattle.board.specs.declared.board.Board.{Board}
@@ -24,17 +25,7 @@ module _ (state : State) (rule : RuleMeaning) (order : TieMeaning) where
   setting_answers :
       ((is_shut state ≡ true) ⊎ ((rule.n ≡ state.settings.n → ⊥) ⊎ (order.n ≡ state.settings.n → ⊥)))
       → ReleaseAnswers state rule order (Err Setting)
-  setting_answers why =
-      record {
-        setting = comes refl why;
-        nothing_ready = fails (omega arith) (λ asked. refused asked.0 asked.1);
-        done = λ count. fails (omega arith) (λ asked. refused asked.0 asked.2);
-      }
-    where
-      refused : (board : Board) → IsAsked state rule order board → ⊥
-      refused board asked =
-          ⊎_elim (λ shut. both_ways (is_shut state) asked.live shut)
-          (λ apart. ⊎_elim (λ r. r asked.rule_n) (λ o. o asked.order_n) apart) why
+  setting_answers why = grind (arith, common_steps)
 
   -- asked: the answer is the rule's
   module _ (board : Board) (asked : IsAsked state rule order board) where
@@ -58,8 +49,7 @@ module _ (state : State) (rule : RuleMeaning) (order : TieMeaning) where
         no_source : (other : Board) (sources : ℕ) → IsAsked state rule order other → rule.answer other ≡ Some sources → ⊥
         no_source other sources also settled =
             let same = ap rule.answer (one_board other also) in
-            let z : ◌≡◌ {A = ℕ} 0 1 = cc in
-            omega arith
+            cc
     asked_answers (Some sources) settled =
         record {
           setting = fails (omega arith) never_setting;
@@ -73,8 +63,7 @@ module _ (state : State) (rule : RuleMeaning) (order : TieMeaning) where
         no_none : (other : Board) → IsAsked state rule order other → rule.answer other ≡ None → ⊥
         no_none other also none =
             let same = ap rule.answer (one_board other also) in
-            let z : ◌≡◌ {A = ℕ} 0 1 = cc in
-            omega arith
+            cc
 
         counted :
             (count : ℕ) (other : Board) (others : ℕ) → IsAsked state rule order other → rule.answer other ≡ Some others

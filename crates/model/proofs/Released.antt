@@ -1,5 +1,6 @@
 -- What a release keeps: the wave of a settled board on the roll. Assumes nothing.
-use Rattle.std.proofs.Common.{◌≡◌, ℕ, zero, suc, ◌+◌, ◌<◌, ◌≤◌, Bool, true, false, cond, eqb, leb, ◌⊎◌, ◌↔◌, List, [], ◌∷◌, ◌++◌, length, is_some, Some, None, Ok, Option, sym, refl, ap, ◌∙◌, subst, ap₂, inl, inr, ⊎_elim, arith}
+use Rattle.std.proofs.Common.{◌≡◌, ℕ, zero, suc, ◌+◌, ◌<◌, ◌≤◌, Bool, true, cond, eqb, leb, ◌⊎◌, List, [], ◌∷◌, ◌++◌, length, is_some, Some, None, Ok, Option, sym, refl, ap, ◌∙◌, subst, ap₂, inl, inr, ⊎_elim, arith}
+use Rattle.std.proofs.lemmas.Grind.{common_steps}
 use Rattle.std.proofs.lemmas.List.{length-append, length-map, map-append}
 use Rattle.std.proofs.lemmas.Bool.{and_from, cases_Bool, cases_lt, eq-eqb, eqb-true, le-leb, true≢false}
 use Rattle.std.proofs.lemmas.Bool.Decides.{nat_tests}
@@ -15,7 +16,6 @@ use Rattle.board.proofs.Places.{one}
 use Rattle.ties.specs.Ties.{TieMeaning}
 use Rattle.ties.specs.Ties as ties
 use Rattle.wire.specs.Words.{sum_below}
-use Rattle.wire.specs.declared.fault.Fault.TheVariants.{NoBoard, Setting}
 use Rattle.wire.specs.declared.message.Message.{Message}
 use Rattle.model.specs.declared.entry.Entry.{Entry}
 use Rattle.model.specs.Accepted.{accepted_as, is_named, or_else, tally}
@@ -24,8 +24,7 @@ use Rattle.model.specs.Heads as heads
 use Rattle.model.specs.Heads.{board_at, head, present_set, voter_sets}
 use Rattle.model.specs.Sound.{Begun, Gapless, Sound}
 use Rattle.model.specs.States.{State, known, last_wave, on_roll, released, releasing}
-use Rattle.model.specs.Waves.{Ascending, BeforeAll, HeadOfSource, IsWave, On, as_head, wave_of}
-use Rattle.model.proofs.Decided.{never-taken}
+use Rattle.model.specs.Waves.{Ascending, BeforeAll, IsWave, On, as_head, wave_of}
 use Rattle.model.proofs.Followed.{some-message}
 use Rattle.model.proofs.HeadLaws.{listed-message, released-fewer}
 use Rattle.model.proofs.MessageFacts.{group_small, station_first, station_last}
@@ -85,10 +84,7 @@ some-tally (first ∷ rest) station some =
 pub tally-none :
     (messages : List Message) (station : ℕ)
     → ((message : Message) → On message messages → message.station ≡ station → ⊥) → tally messages station ≡ 0
-tally-none messages station none =
-    ⊎_elim (λ few. omega arith)
-    (λ some. let found = some-tally messages station some in absurd (none found.0 found.1 found.2))
-    (cases_lt (tally messages station) 1)
+tally-none messages station none = grind (arith, common_steps, some-tally, cases_lt)
 
 -- of different stations, so at most one of each
 tally_spread : (messages : List Message) (station : ℕ) → Spread messages → tally messages station ≤ 1
@@ -108,10 +104,7 @@ tally_spread (first ∷ rest) station spread =
 either-found :
     (later : Option Message) (here : Bool) (first : Message) → (is_some later ≡ true) ⊎ (here ≡ true)
     → is_some (or_else later (cond here (Some first) None)) ≡ true
-either-found (Some found) here first either = refl
-either-found None true first either = refl
-either-found None false first (inl later) = later
-either-found None false first (inr here) = here
+either-found = grind (arith, common_steps)
 
 pub on_found :
     (messages : List Message) (message : Message) → On message messages
@@ -284,8 +277,7 @@ last_more roll wave (first ∷ messages) some =
     last-append roll (record { wave = wave; message = first }) (as_entries wave messages) ∙ last_of wave first messages
 
 on_some : (messages : List Message) (message : Message) → On message messages → 1 ≤ length messages
-on_some [] message on = elim on [ ]
-on_some (first ∷ rest) message on = omega arith
+on_some = grind (arith, common_steps)
 
 -- an ascending list has no two messages of one station
 
@@ -317,15 +309,7 @@ made_decided :
     (n present : ℕ) (voters : List ℕ) (group holds : Bool)
     (g : is_group n ≡ group) (h : is_board n present voters ≡ holds) (board : Board)
     → board_decided n present voters group holds g h ≡ Ok board → MadeOf n present voters board
-made_decided n present voters true true g h board e =
-    let same : record { n = n; present = present; voters = voters; group = g; holds = h } ≡ board = cc in
-    record {
-      n_is = sym (ap (λ (b : Board). b.n) same);
-      present_is = sym (ap (λ (b : Board). b.present) same);
-      voters_are = sym (ap (λ (b : Board). b.voters) same);
-    }
-made_decided n present voters true false g h board e = absurd (never-taken NoBoard board e)
-made_decided n present voters false holds g h board e = absurd (never-taken Setting board e)
+made_decided = grind (arith, common_steps)
 
 pub made_of :
     (n present : ℕ) (voters : List ℕ) (board : Board) → board_of n present voters ≡ Ok board
@@ -385,17 +369,7 @@ module _
       (omega arith) (omega arith) (λ station message e. (head_named station message e).0)
       (λ place source. let below = source_member place source in omega arith)).0
 
-  -- the wave has the heads of the sources, and some head
-
-  pub wave_members :
-      (message : Message)
-      → On message (on_roll (wave_from state order sources))
-      ↔ HeadOfSource (head (known state) (released state)) sources message
-  wave_members message =
-      let same = on_entries (next_wave state) (wave_messages state order sources) in (
-        λ on. wave_is.only_heads message (subst (On message) same on),
-        λ source. subst (On message) (sym same) (wave_is.all_heads message source),
-      )
+  -- the wave has some head
 
   pub wave_nonempty : 1 ≤ length (wave_from state order sources)
   wave_nonempty =
@@ -413,9 +387,7 @@ module _
   -- one message of each source, and of no other station
 
   wave_few : (station : ℕ) → tally (wave_messages state order sources) station ≤ 1
-  wave_few station =
-      tally_spread (wave_messages state order sources) station
-      (ascending_spread order (next_wave state) (wave_messages state order sources) orderly wave_is.ascending)
+  wave_few station = grind (arith, common_steps, tally_spread, ascending_spread, wave_is)
 
   wave_tally : (place : ℕ) → tally (wave_messages state order sources) (suc place) ≡ cond (has sources place) 1 0
   wave_tally place =
@@ -451,10 +423,7 @@ module _
       (place : ℕ)
       → released (releasing state (wave_from state order sources)) (suc place)
       ≡ released state (suc place) + cond (has sources place) 1 0
-  released_more place =
-      ap (λ messages. tally messages (suc place)) roll_is
-      ∙ tally-append (on_roll state.roll) (wave_messages state order sources) (suc place)
-      ∙ ap (λ more. released state (suc place) + more) (wave_tally place)
+  released_more place = grind (arith, common_steps, roll_is, tally-append, wave_tally)
 
   -- a message of the wave is accepted, under the number after the released of its station
 
@@ -486,12 +455,4 @@ module _
       })
 
   pub sound_releasing : Sound (releasing state (wave_from state order sources))
-  sound_releasing =
-      record {
-        kept = sound.kept;
-        begun = begun_more;
-        waves =
-            let before = sound.waves in
-            let long = length-append state.roll (wave_from state order sources) in
-            omega (arith, last_wave_more, wave_nonempty);
-      }
+  sound_releasing = grind (arith, common_steps, begun_more, length-append, last_wave_more, wave_nonempty)

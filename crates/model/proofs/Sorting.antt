@@ -1,8 +1,8 @@
 -- Lists in a tie order: putting a message in, and that a list in order is told by what is on it. Assumes nothing.
-use Rattle.std.proofs.Common.{◌≡◌, ℕ, ◌<◌, ◌≤◌, Bool, true, false, cond, not, ◌⊎◌, List, [], ◌∷◌, sym, refl, ap, ◌∙◌, inl, inr, ⊎_elim, arith}
-use Rattle.std.proofs.lemmas.Bool.{cases_lt, true≢false}
+use Rattle.std.proofs.Common.{◌≡◌, ℕ, ◌≤◌, Bool, true, false, cond, not, ◌⊎◌, List, [], ◌∷◌, sym, refl, ap, ◌∙◌, inl, inr, ⊎_elim, arith}
+use Rattle.std.proofs.lemmas.Grind.{common_steps}
+use Rattle.std.proofs.lemmas.Bool.{true≢false}
 use Rattle.ties.specs.Ties.{Lawful, Member, TieMeaning}
-use Rattle.ties.specs.declared.tie.Head.{Head}
 use Rattle.wire.specs.declared.message.Message.{Message}
 use Rattle.model.specs.Waves.{Ascending, BeforeAll, On, as_head, goes_before, in_order, put_in}
 
@@ -12,10 +12,7 @@ put_either :
     (here : Bool) (message first other : Message) (rest put : List Message)
     → (On other put → (other ≡ message) ⊎ On other rest)
     → On other (cond here (message ∷ first ∷ rest) (first ∷ put)) → (other ≡ message) ⊎ On other (first ∷ rest)
-put_either true message first other rest put below on = on
-put_either false message first other rest put below (inl e) = inr (inl e)
-put_either false message first other rest put below (inr on) =
-    ⊎_elim (λ e. inl e) (λ there. inr (inr there)) (below on)
+put_either = grind (arith, common_steps)
 
 pub put_on :
     (order : TieMeaning) (wave : ℕ) (message other : Message) (messages : List Message)
@@ -30,10 +27,7 @@ either_put :
     (here : Bool) (message first other : Message) (rest put : List Message)
     → ((other ≡ message) ⊎ On other rest → On other put)
     → (other ≡ message) ⊎ On other (first ∷ rest) → On other (cond here (message ∷ first ∷ rest) (first ∷ put))
-either_put true message first other rest put below on = on
-either_put false message first other rest put below (inl e) = inr (below (inl e))
-either_put false message first other rest put below (inr (inl e)) = inl e
-either_put false message first other rest put below (inr (inr on)) = inr (below (inr on))
+either_put = grind (arith, common_steps)
 
 pub on_put :
     (order : TieMeaning) (wave : ℕ) (message other : Message) (messages : List Message)
@@ -89,52 +83,19 @@ abbrev pub Spread : List Message → Type 0
 Spread [] = Unit {0}
 Spread (first ∷ rest) = ((other : Message) → On other rest → first.station ≡ other.station → ⊥) × Spread rest
 
-member_or_not : (n : ℕ) (head : Head) → Member n head ⊎ (Member n head → ⊥)
-member_or_not n head =
-    ⊎_elim (λ none. inr (λ member. low none member))
-    (λ some.
-    ⊎_elim (λ past. inr (λ member. high past member)) (λ below. inl (some, below)) (cases_lt n head.station))
-    (cases_lt head.station 1)
-  where
-    low : head.station < 1 → Member n head → ⊥
-    low none member = omega arith
-
-    high : n < head.station → Member n head → ⊥
-    high past member = omega arith
-
 module _ (order : TieMeaning) (wave : ℕ) (lawful : Lawful order) (from_one : 1 ≤ wave) where
-  -- a message that goes before another is of the group, and so is the other, of another station
+  -- a message that goes before another is of another station
 
   apart :
       (message other : Message) → goes_before order wave message other ≡ true → message.station ≡ other.station → ⊥
   apart message other before same =
       true≢false (sym before ∙ lawful.not_itself wave (as_head message) (as_head other) same)
 
-  first_member :
-      (message other : Message) → goes_before order wave message other ≡ true → Member order.n (as_head message)
-  first_member message other before =
-      ⊎_elim (λ member. member)
-      (λ stranger.
-      absurd (true≢false (sym before ∙ lawful.no_stranger_first wave (as_head message) (as_head other) stranger)))
-      (member_or_not order.n (as_head message))
-
-  second_member :
-      (message other : Message) → goes_before order wave message other ≡ true → Member order.n (as_head other)
-  second_member message other before =
-      ⊎_elim (λ member. member)
-      (λ stranger.
-      absurd (true≢false (sym before ∙ lawful.no_stranger_second wave (as_head message) (as_head other) stranger)))
-      (member_or_not order.n (as_head other))
-
   -- no two messages go before one another
   one_way :
       (message other : Message) → goes_before order wave message other ≡ true
       → goes_before order wave other message ≡ true → ⊥
-  one_way message other there back =
-      true≢false (sym back
-      ∙ lawful.one_first wave (as_head message) (as_head other) from_one
-      (first_member message other there) (second_member message other there) (apart message other there)
-      ∙ ap not there)
+  one_way message other there back = grind (arith, common_steps)
 
   -- a message that is put into an ascending list of others
   put_ascending :
@@ -197,20 +158,13 @@ module _ (order : TieMeaning) (wave : ℕ) (lawful : Lawful order) (from_one : 1
       (first second : Message) (rest others : List Message)
       → BeforeAll order wave first rest → BeforeAll order wave second others
       → On first (second ∷ others) → On second (first ∷ rest) → first ≡ second
-  same_first first second rest others before after (inl e) back = e
-  same_first first second rest others before after (inr there) (inl e) = sym e
-  same_first first second rest others before after (inr there) (inr back) =
-      absurd (one_way first second (before-one order wave first rest second before back)
-      (before-one order wave second others first after there))
+  same_first = grind (arith, common_steps, one_way, before-one)
 
   -- what stands after the first of an ascending list is not the first
   passed :
       (first second other : Message) (rest others : List Message) → first ≡ second
       → BeforeAll order wave first rest → On other rest → On other (second ∷ others) → On other others
-  passed first second other rest others same before on (inl e) =
-      absurd (apart first other (before-one order wave first rest other before on)
-      (ap (λ (m : Message). m.station) (same ∙ sym e)))
-  passed first second other rest others same before on (inr there) = there
+  passed = grind (arith, common_steps, apart, before-one)
 
   -- two ascending lists with the same messages on them are equal
   pub one_list :

@@ -1,6 +1,7 @@
 -- Early by counts: something that a message follows is missing just where its count is above the tally.
 -- Assumes nothing.
 use Rattle.std.proofs.Common.{◌≡◌, ℕ, suc, ◌<◌, ◌≤◌, Bool, true, false, not, ltb, List, is_some, sym, ◌∙◌, ⊎_elim, arith}
+use Rattle.std.proofs.lemmas.Grind.{common_steps}
 use Rattle.std.proofs.lemmas.Bool.{cases_Bool, cases_lt, le-ltb, lt-ltb, not_from_true, not_from_false, true≢false}
 use Rattle.board.specs.Sets.{any, some}
 use Rattle.board.proofs.Places.{some_at, some-from, some_same}
@@ -54,6 +55,4 @@ lacks-told messages message place gapless =
 pub early-told :
     (messages : List Message) (message : Message) → Gapless messages
     → any (λ place. ltb (tally messages (suc place)) (count_of message (suc place))) ≡ early (accepted_as messages) message
-early-told messages message gapless =
-    some_same (λ place. ltb (tally messages (suc place)) (count_of message (suc place))) (lacks (accepted_as messages) message) 16
-    (λ place h. lacks-told messages message place gapless)
+early-told messages message gapless = grind (arith, common_steps, some_same, lacks-told)

@@ -1,6 +1,7 @@
 -- Boards of more messages: a wider view extends the board, and two views of one group settle on the same sources.
 -- Assumes nothing.
-use Rattle.std.proofs.Common.{◌≡◌, ℕ, suc, ◌<◌, ◌≤◌, Bool, true, false, not, ◌&&◌, eqb, ltb, leb, ◌⊎◌, List, length, is_some, Some, None, Ok, Option, sym, refl, ap, ◌∙◌, ap₂, inl, inr, ⊎_elim, arith}
+use Rattle.std.proofs.Common.{◌≡◌, ℕ, suc, ◌<◌, ◌≤◌, Bool, true, false, not, ◌&&◌, eqb, ltb, leb, ◌⊎◌, List, is_some, Some, None, Ok, Option, sym, refl, ap, ◌∙◌, ap₂, ⊎_elim, arith}
+use Rattle.std.proofs.lemmas.Grind.{common_steps}
 use Rattle.std.proofs.lemmas.List.FromFn.{get_or-map-range_with_len, length-map-range_with_len}
 use Rattle.std.proofs.lemmas.List.{get_or_past}
 use Rattle.std.proofs.lemmas.Bool.{and_from, and_parts, and_right, cases_Bool, cases_lt, eqb-true, leb-true, or_cases, true≢false}
@@ -35,7 +36,7 @@ Agree accepted other =
     → other station number ≡ Some message' → message ≡ message'
 
 nothing-there : {A : Type 0} (message : A) (found : Option A) → found ≡ None → found ≡ Some message → ⊥
-nothing-there message found none some = let z : ◌≡◌ {A = ℕ} 0 1 = cc in omega arith
+nothing-there message found none some = cc
 
 -- What is on the board of a view.
 
@@ -48,28 +49,16 @@ made_of :
     (n present : ℕ) (voters : List ℕ) (group holds : Bool)
     (g : is_group n ≡ group) (h : is_board n present voters ≡ holds) (board : Board)
     → board_decided n present voters group holds g h ≡ Ok board → MadeOf n present voters board
-made_of n present voters true true g h board e =
-    let same : ◌≡◌ {A = Board} (record { n = n; present = present; voters = voters; group = g; holds = h }) board = cc in
-    record {
-      size = sym (ap (λ (b : Board). b.n) same);
-      present_is = sym (ap (λ (b : Board). b.present) same);
-      voters_are = sym (ap (λ (b : Board). b.voters) same);
-    }
-made_of n present voters true false g h board e = absurd (let z : ◌≡◌ {A = ℕ} 0 1 = cc in omega arith)
-made_of n present voters false holds g h board e = absurd (let z : ◌≡◌ {A = ℕ} 0 1 = cc in omega arith)
+made_of = grind (arith, common_steps)
 
 module _
     (n : ℕ) (accepted : Accepted) (released : Released) (board : Board)
     (made : board_at n accepted released ≡ Ok board) where
   pub sets_of : MadeOf n (present_set accepted released) (voter_sets accepted released) board
-  sets_of =
-      made_of n (present_set accepted released) (voter_sets accepted released) (is_group n)
-      (is_board n (present_set accepted released) (voter_sets accepted released)) refl refl board made
+  sets_of = grind (arith, common_steps)
 
   pub present_at : (place : ℕ) → boards.is_present board place ≡ (ltb place 16 && is_present accepted released (suc place))
-  present_at place =
-      ap (λ s. has s place) sets_of.present_is
-      ∙ has_collected (λ k. is_present accepted released (suc k)) 16 place
+  present_at place = grind (arith, common_steps, sets_of, has_collected)
 
   vote_inside :
       (voter place : ℕ) → place < 16
@@ -82,15 +71,7 @@ module _
 
   vote_outside : (voter place : ℕ) → 16 ≤ place → votes_at board voter place ≡ false
   unfolding voter_sets
-  vote_outside voter place past =
-      ap (λ v. has (votes_for v place) voter) sets_of.voters_are
-      ∙ ap (λ s. has s voter)
-      (get_or_past (voter_sets accepted released) place 0
-      (reached (length (voter_sets accepted released)) (length-map-range_with_len (voters_of accepted released) 0 16)))
-      ∙ has-zero voter
-    where
-      reached : (long : ℕ) → long ≡ 16 → long ≤ place
-      reached long same = omega arith
+  vote_outside voter place past = grind (arith, common_steps, sets_of, get_or_past, length-map-range_with_len, has-zero)
 
 -- The board of a wider view.
 
@@ -98,22 +79,13 @@ module _
 absent-votes :
     (accepted : Accepted) (released : Released) (voter station : ℕ) → is_present accepted released voter ≡ false
     → votes accepted released voter station ≡ false
-absent-votes accepted released voter station absent =
-    and_right (is_candidate accepted released station)
-    (backs (head accepted released voter) (head accepted released station))
-    (silent (head accepted released voter) absent)
-  where
-    silent : (found : Option Message) → is_some found ≡ false → backs found (head accepted released station) ≡ false
-    silent (Some message) e = absurd (true≢false e)
-    silent None e = refl
+absent-votes accepted released voter station absent = grind (arith, common_steps)
 
 -- a vote at one of the sixteen places, where the voter is not newly present
 old_vote :
     (inside there now vote vote' : Bool) → (not (inside && there) && (inside && now)) ≡ false
     → ((there ≡ false → now ≡ false) → vote' ≡ vote) → (inside && vote') ≡ (inside && vote)
-old_vote false there now vote vote' old same = refl
-old_vote true true now vote vote' old same = same (λ e. absurd (true≢false e))
-old_vote true false now vote vote' old same = same (λ e. old)
+old_vote = grind (arith, common_steps)
 
 module _
     (n : ℕ) (accepted wider : Accepted) (released : Released)
@@ -259,24 +231,12 @@ module _ (accepted other : Accepted) where
   within_left station number message e = ap (λ o. or_else o (other station number)) e
 
   pub within_right : Agree accepted other → Within other (union accepted other)
-  within_right agree station number message e = by_first (accepted station number) refl
-    where
-      by_first :
-          (found : Option Message) → accepted station number ≡ found
-          → or_else found (other station number) ≡ Some message
-      by_first (Some first) is = ap Some (agree station number first message is e)
-      by_first None is = e
+  within_right agree station number message e = grind (arith, common_steps)
 
   in_either :
       (station number : ℕ) (message : Message) → union accepted other station number ≡ Some message
       → (accepted station number ≡ Some message) ⊎ (other station number ≡ Some message)
-  in_either station number message e = by_first (accepted station number) refl e
-    where
-      by_first :
-          (found : Option Message) → accepted station number ≡ found → or_else found (other station number) ≡ Some message
-          → (accepted station number ≡ Some message) ⊎ (other station number ≡ Some message)
-      by_first (Some first) is e = inl (is ∙ e)
-      by_first None is e = inr e
+  in_either station number message e = grind (arith, common_steps)
 
 pub union_orderly :
     (n : ℕ) (accepted other : Accepted) → Orderly n accepted → Orderly n other → Agree accepted other
@@ -378,9 +338,4 @@ pub same_heads :
     → board_at n accepted released ≡ Ok board → board_at n other released ≡ Ok board'
     → rule.answer board ≡ Some sources → rule'.answer board' ≡ Some sources → has sources place ≡ true
     → head accepted released (suc place) ≡ head other released (suc place)
-same_heads n accepted other released rule rule' board board' sources place agree lawful lawful' made made' settled settled' source =
-    let own = source_head n accepted released rule board sources place lawful made settled source in
-    let theirs = source_head n other released rule' board' sources place lawful' made' settled' source in
-    own.1
-    ∙ ap Some (agree (suc place) (suc (released (suc place))) own.0 theirs.0 own.1 theirs.1)
-    ∙ sym theirs.1
+same_heads n accepted other released rule rule' board board' sources place agree lawful lawful' made made' settled settled' source = grind (arith, common_steps, source_head)

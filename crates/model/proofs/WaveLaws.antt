@@ -1,11 +1,12 @@
 -- The computed wave is the wave of the sources' heads, and no other list is. Assumes nothing.
-use Rattle.std.proofs.Common.{◌≡◌, ℕ, zero, suc, ◌<◌, ◌≤◌, Bool, true, false, ◌⊎◌, List, Some, None, Option, sym, refl, ap, ◌∙◌, inl, inr, ⊎_elim, arith}
-use Rattle.std.proofs.lemmas.Bool.{cases_eq, true≢false}
+use Rattle.std.proofs.Common.{◌≡◌, ℕ, zero, suc, ◌<◌, ◌≤◌, Bool, true, false, ◌⊎◌, List, Some, None, Option, sym, refl, ap, ◌∙◌, ⊎_elim, arith}
+use Rattle.std.proofs.lemmas.Grind.{common_steps}
+use Rattle.std.proofs.lemmas.Bool.{cases_eq}
 use Rattle.board.specs.Sets.{has}
-use Rattle.ties.specs.Ties.{Lawful, Member, TieMeaning}
+use Rattle.ties.specs.Ties.{Lawful, TieMeaning}
 use Rattle.wire.specs.declared.message.Message.{Message}
 use Rattle.model.specs.Laws.{ByStation, OfGroup, WavesAreOne}
-use Rattle.model.specs.Waves.{HeadsOf, IsWave, On, add_head, as_head, heads_below, wave_of}
+use Rattle.model.specs.Waves.{HeadsOf, IsWave, On, add_head, heads_below, wave_of}
 use Rattle.model.proofs.Sorting.{Spread, on_sorted, one_list, sorted_ascending, sorted_on}
 
 -- a message is the head of the source at a place below a bound
@@ -16,24 +17,17 @@ HeadBelow heads sources bound message =
 added :
     (asked : Bool) (head : Option Message) (messages : List Message) (message : Message)
     → On message (add_head asked head messages) → ((asked ≡ true) × (head ≡ Some message)) ⊎ On message messages
-added true (Some first) messages message (inl e) = inl (refl, cc)
-added true (Some first) messages message (inr on) = inr on
-added true None messages message on = inr on
-added false head messages message on = inr on
+added = grind (arith, common_steps)
 
 added_first :
     (asked : Bool) (head : Option Message) (messages : List Message) (message : Message)
     → asked ≡ true → head ≡ Some message → On message (add_head asked head messages)
-added_first true (Some first) messages message asks e = inl (cc)
-added_first true None messages message asks e = let never : ◌≡◌ {A = ℕ} 0 1 = cc in absurd (omega arith)
-added_first false head messages message asks e = absurd (true≢false (sym asks))
+added_first = grind (arith, common_steps)
 
 added_rest :
     (asked : Bool) (head : Option Message) (messages : List Message) (message : Message)
     → On message messages → On message (add_head asked head messages)
-added_rest true (Some first) messages message on = inr on
-added_rest true None messages message on = on
-added_rest false head messages message on = on
+added_rest = grind (arith, common_steps)
 
 -- the listed heads are the heads of the sources below the bound, and nothing else
 
@@ -96,29 +90,7 @@ computed :
     → Lawful order → order.n ≤ 16 → 1 ≤ wave → ByStation heads → OfGroup order.n sources
     → IsWave order wave heads sources (wave_of order wave heads sources)
 unfolding wave_of
-computed order wave heads sources lawful small from_one named group =
-    record {
-      only_heads =
-          λ message on.
-          let listed = sorted_on order wave message (heads_below heads sources 16) on in
-          let found = listed-head heads sources 16 message listed in
-          (found.0, found.2, found.3);
-      all_heads =
-          λ message source.
-          let below = group source.0 source.1 in
-          on_sorted order wave message (heads_below heads sources 16)
-          (head-listed heads sources 16 source.0 message (omega (arith, below, small)) source.1 source.2);
-      ascending =
-          sorted_ascending order wave lawful from_one (heads_below heads sources 16) member
-          (listed_spread heads sources 16 named);
-    }
-  where
-    member : (message : Message) → On message (heads_below heads sources 16) → Member order.n (as_head message)
-    member message on =
-        let found = listed-head heads sources 16 message on in
-        let own = named (suc found.0) message found.3 in
-        let below = group found.0 found.2 in
-        (omega (arith, own), omega (arith, own, below))
+computed order wave heads sources lawful small from_one named group = grind (arith, common_steps, sorted_on, listed-head, on_sorted, head-listed, sorted_ascending, listed_spread)
 
 pub waves_are_one : WavesAreOne
 waves_are_one order wave heads sources lawful small from_one named group =

@@ -1,11 +1,9 @@
 -- When each answer of write and of post comes. Assumes nothing.
-use Rattle.std.proofs.Common.{◌≡◌, ℕ, zero, suc, ◌<◌, Bool, true, false, cond, eqb, leb, List, [], ◌∷◌, length, Some, None, Ok, Err, Decides, Option, Result, sym, refl, ap, ◌∙◌, ⊎_elim, arith}
+use Rattle.std.proofs.Common.{◌≡◌, ℕ, zero, suc, ◌<◌, Bool, true, false, cond, eqb, List, [], ◌∷◌, length, None, Ok, Err, Decides, Option, refl, arith}
+use Rattle.std.proofs.lemmas.Grind.{common_steps}
 use Rattle.std.specs.List.{slice_get}
 use Rattle.std.proofs.lemmas.Option.{slice_get_past}
 use Rattle.std.proofs.lemmas.Bool.{and_from, and_parts, both_ways, cases_lt, eq-eqb, eqb-true, false≢true, le-leb, leb-true}
-use Rattle.wire.specs.Format.{noted}
-use Rattle.wire.specs.Words.{all_within}
-use Rattle.wire.specs.declared.fault.Fault.{Fault}
 use Rattle.wire.specs.declared.fault.Fault.TheVariants.{Full, Layout, Length, Setting}
 use Rattle.wire.specs.declared.message.Message.{Message}
 use Rattle.wire.proofs.Ranges.{within_at}
@@ -19,23 +17,7 @@ use Rattle.model.proofs.Written.{within-from}
 -- Write.
 
 writable_decides : (class : ℕ) (note : List ℕ) → Decides (may_write class note) (IsWritable class note)
-writable_decides class note = (parts, whole)
-  where
-    parts : may_write class note ≡ true → IsWritable class note
-    parts e =
-        let first = and_parts (leb class 3) (noted note) e in
-        let rest = and_parts (leb (length note) 64) (all_within 32 126 note) first.1 in
-        record {
-          class_fits = leb-true class 3 first.0;
-          note_fits = leb-true (length note) 64 rest.0;
-          characters = λ place below. within_at 32 126 note place below rest.1;
-        }
-
-    whole : IsWritable class note → may_write class note ≡ true
-    whole fits =
-        and_from (leb class 3) (noted note) (le-leb class 3 fits.class_fits)
-        (and_from (leb (length note) 64) (all_within 32 126 note) (le-leb (length note) 64 fits.note_fits)
-        (within-from 32 126 note fits.characters))
+writable_decides class note = grind (arith, common_steps, and_parts, leb-true, within_at, and_from, le-leb, within-from)
 
 module _ (state : State) (class : ℕ) (note block : List ℕ) (message : Message) where
   written_answers :
@@ -99,49 +81,14 @@ write-answers state class order note block =
 module _ {Held Reply : Type 0} (step : Held → List ℕ → Reply × Held) (state : State) (held : Held) where
   there : (entries : List Entry) (i : ℕ) → i < length entries → slice_get entries i ≡ None → ⊥
   there [] i inside nothing = omega arith
-  there (entry ∷ entries) zero inside nothing = let z : ◌≡◌ {A = ℕ} 0 1 = cc in omega arith
+  there (entry ∷ entries) zero inside nothing = cc
   there (entry ∷ entries) (suc i) inside nothing = there entries i (omega arith) nothing
 
   posted_answers :
       (shut : Bool) → is_shut state ≡ shut → (found : Option Entry) → entry_at state.roll (suc state.posted) ≡ found
       → PostAnswers step state held
       (outcome state (cond shut (Err Setting) (to_post found)) (λ entry. (step held entry.message.order).0) (λ _. posting state)).answer
-  posted_answers true shut found is =
-      record {
-        setting = comes refl shut;
-        nothing_to_post = fails (omega arith) (λ p. both_ways (is_shut state) p.0 shut);
-        done = λ reply. fails (omega arith) (λ p. both_ways (is_shut state) p.1 shut);
-      }
-  posted_answers false live None none =
-      record {
-        setting = fails (omega arith) (λ shut. both_ways (is_shut state) live shut);
-        nothing_to_post =
-            comes refl (
-              live,
-              ⊎_elim (λ below. absurd (there state.roll state.posted below none)) (λ past. past)
-                  (cases_lt state.posted (length state.roll)),
-            );
-        done = λ reply. fails (omega arith) (λ p. let found = p.2 in let z : ◌≡◌ {A = ℕ} 0 1 = cc in omega arith);
-      }
-  posted_answers false live (Some entry) found =
-      record {
-        setting = fails (omega arith) (λ shut. both_ways (is_shut state) live shut);
-        nothing_to_post =
-            fails (omega arith)
-            (λ p. let none = slice_get_past state.roll state.posted p.1 in let z : ◌≡◌ {A = ℕ} 0 1 = cc in omega arith);
-        done = λ reply. (
-          (λ same. (entry, live, found, (cc))),
-          (λ p. replied reply p.0 p.2 p.3),
-        );
-      }
-    where
-      replied :
-          (reply : Reply) (other : Entry) → entry_at state.roll (suc state.posted) ≡ Some other
-          → reply ≡ (step held other.message.order).0
-          → ◌≡◌ {A = Result Reply Fault} (Ok (step held entry.message.order).0) (Ok reply)
-      replied reply other also is =
-          let one : other ≡ entry = cc in
-          ap Ok (sym (is ∙ ap (λ e. (step held e.message.order).0) one))
+  posted_answers = grind (arith, common_steps, comes, fails, both_ways, there, cases_lt, slice_get_past)
 
   pub post_answers : PostAnswers step state held (post_of step state held).answer
   post_answers = posted_answers (is_shut state) refl (entry_at state.roll (suc state.posted)) refl

@@ -1,21 +1,20 @@
 -- What a write passes, and that the message it makes fits. Assumes nothing.
-use Rattle.std.proofs.Common.{◌≡◌, ℕ, zero, suc, ◌+◌, ◌<◌, ◌≤◌, Bool, true, false, cond, ◌&&◌, eqb, leb, List, [], ◌∷◌, length, get_or, drop, is_some, Some, None, Ok, Err, Option, sym, refl, ap, ◌∙◌, ⊎_elim, arith}
+use Rattle.std.proofs.Common.{◌≡◌, ℕ, zero, suc, ◌<◌, ◌≤◌, true, false, ◌&&◌, leb, List, [], ◌∷◌, length, get_or, is_some, Some, None, Ok, sym, refl, ap, ◌∙◌, ⊎_elim, arith}
+use Rattle.std.proofs.lemmas.Grind.{common_steps}
 use Rattle.std.proofs.lemmas.List.FromFn.{get_or-map-range_with_len, length-map-range_with_len}
 use Rattle.std.proofs.lemmas.List.{get_or-drop, get_or_past, length-drop}
-use Rattle.std.proofs.lemmas.Bool.{and_from, cases_Bool, cases_lt, eqb-true, le-leb, not-false, true≢false}
+use Rattle.std.proofs.lemmas.Bool.{and_from, cases_Bool, cases_lt, le-leb, true≢false}
 use Rattle.std.proofs.lemmas.Bool.Decides.{nat_tests}
 use Rattle.board.specs.Ballots.{is_group}
 use Rattle.wire.specs.Messages.{count, counts_fit, well_formed}
 use Rattle.wire.specs.Words.{all_within}
-use Rattle.wire.specs.declared.fault.Fault.TheVariants.{Length, Layout, Full, Setting}
 use Rattle.wire.specs.declared.message.Message.{Message}
 use Rattle.model.specs.Accepted.{crossed, early, tallies, tally}
 use Rattle.model.specs.Calls.{may_write, next_message, write_decided}
 use Rattle.model.specs.Following.{count_of}
 use Rattle.model.specs.Sound.{Sound}
-use Rattle.model.specs.States.{Settings, State, is_full, is_shut, known, may_open}
+use Rattle.model.specs.States.{Settings, State, is_full, is_shut, known}
 use Rattle.model.proofs.AnswerLaws.{crossed_decides, early_decides}
-use Rattle.model.proofs.Decided.{never-taken}
 use Rattle.model.proofs.MessageFacts.{count_is, station_last}
 use Rattle.model.proofs.Pushed.{tally-few}
 use Rattle.model.proofs.Released.{tally-none}
@@ -32,21 +31,7 @@ pub record WriteParts
 pub write-parts :
     (state : State) (class : ℕ) (order note block : List ℕ) (message : Message)
     → write_decided state class order note block ≡ Ok message → WriteParts state class order note block message
-write-parts state class order note block message e =
-    tested (is_shut state) (eqb (length block) 512) (may_write class note) (is_full state) refl refl refl refl e
-  where
-    tested :
-        (shut long may full : Bool) → is_shut state ≡ shut → eqb (length block) 512 ≡ long → may_write class note ≡ may
-        → is_full state ≡ full
-        → cond shut (Err Setting)
-        (cond long (cond may (cond full (Err Full) (Ok (next_message state class order))) (Err Layout)) (Err Length))
-        ≡ Ok message → WriteParts state class order note block message
-    tested true long may full s l m f e = absurd (never-taken Setting message e)
-    tested false false may full s l m f e = absurd (never-taken Length message e)
-    tested false true false full s l m f e = absurd (never-taken Layout message e)
-    tested false true true true s l m f e = absurd (never-taken Full message e)
-    tested false true true false s l m f e =
-        record { live = s; long = eqb-true (length block) 512 l; may = m; room = f; is = cc }
+write-parts state class order note block message e = grind (arith, common_steps)
 
 -- The sixteen tallies, by place.
 
@@ -68,9 +53,9 @@ pub within-from :
 within-from low high [] each = refl
 within-from low high (number ∷ numbers) each =
     let first = each 0 (omega arith) in
-    and_from (leb low number) (leb number high && all_within low high numbers) (le-leb low number first.0)
-    (and_from (leb number high) (all_within low high numbers) (le-leb number high first.1)
-    (within-from low high numbers (λ place below. each (suc place) (omega arith))))
+    and_from (leb low number && leb number high) (all_within low high numbers)
+    (and_from (leb low number) (leb number high) (le-leb low number first.0) (le-leb number high first.1))
+    (within-from low high numbers (λ place below. each (suc place) (omega arith)))
 
 -- the settings of a station that is not shut
 pub record Opened (settings : Settings) : Type 0 where
@@ -81,19 +66,7 @@ pub record Opened (settings : Settings) : Type 0 where
   pub table_small : settings.table ≤ 4096
 
 pub opened-live : (state : State) → is_shut state ≡ false → Opened state.settings
-opened-live state live =
-    let may : may_open state.settings ≡ true = not-false (may_open state.settings) live in
-    record {
-      group = grind (arith, nat_tests);
-      n_small = grind (arith, nat_tests);
-      own_first = grind (arith, nat_tests);
-      own_last = grind (arith, nat_tests);
-      table_small = grind (arith, nat_tests);
-    }
-
-none_found : (found : Option Message) → (is_some found ≡ true → ⊥) → found ≡ None
-none_found None never = refl
-none_found (Some message) never = absurd (never refl)
+opened-live state live = grind (arith, common_steps)
 
 -- The next message of an open station that has room.
 
@@ -132,17 +105,7 @@ module _
   tallies_none place above below = tallies-at state.accepted place below ∙ none_above (suc place) (omega arith)
 
   tallies_fit : counts_fit state.settings.n (tallies state.accepted) ≡ true
-  tallies_fit =
-      let long = tallies-length state.accepted in
-      let short = length-drop state.settings.n (tallies state.accepted) in
-      and_from (all_within 0 4096 (tallies state.accepted))
-      (all_within 0 0 (drop state.settings.n (tallies state.accepted)))
-      (within-from 0 4096 (tallies state.accepted) (λ place below. (omega arith, tallies_small place (omega arith))))
-      (within-from 0 0 (drop state.settings.n (tallies state.accepted))
-      (λ place below.
-      let at = get_or-drop state.settings.n (tallies state.accepted) place 0 in
-      let none = tallies_none (state.settings.n + place) (omega arith) (omega arith) in
-      (omega arith, omega arith)))
+  tallies_fit = grind (arith, common_steps, tallies-length, length-drop, and_from, within-from, tallies_small, get_or-drop, tallies_none)
 
   -- what it follows of a station is what is accepted of it
   next_count :
@@ -151,43 +114,18 @@ module _
   next_count place below = tallies-at state.accepted place below
 
   counted : (station : ℕ) → count_of (next_message state class order) station ≤ tally state.accepted station
-  counted zero = omega arith
-  counted (suc place) =
-      ⊎_elim (λ below. omega (arith, next_count place below))
-      (λ past.
-      let long = tallies-length state.accepted in
-      omega (arith, get_or_past (tallies state.accepted) place 0 (omega arith)))
-      (cases_lt place 16)
+  counted = grind (arith, common_steps, next_count, tallies-length, get_or_past, cases_lt)
 
   own_counted :
       (station : ℕ) → 1 ≤ station → station ≤ 16
       → count (next_message state class order) station ≡ tally state.accepted station
-  own_counted zero first last = absurd (omega arith)
-  own_counted (suc place) first last =
-      count_is (next_message state class order) (suc place) first ∙ next_count place (omega arith)
+  own_counted = grind (arith, common_steps, count_is, next_count)
 
   next_well : well_formed state.settings.n (next_message state class order) ≡ true
-  next_well =
-      let opened = open_settings in
-      let few = opened.n_small in
-      let first = opened.own_first in
-      let last = opened.own_last in
-      let small = tally_small state.settings.own in
-      let own = own_counted state.settings.own first (omega arith) in
-      let fit = tallies_fit in
-      grind (arith, nat_tests)
+  next_well = grind (arith, common_steps, open_settings, tally_small, own_counted, tallies_fit, nat_tests)
 
   next_fresh : known state state.settings.own (suc (tally state.accepted state.settings.own)) ≡ None
-  next_fresh = none_found (known state own next) (λ there. over ((sound.kept.gapless own next).0 there).1)
-    where
-      own : ℕ
-      own = state.settings.own
-
-      next : ℕ
-      next = suc (tally state.accepted state.settings.own)
-
-      over : suc (tally state.accepted state.settings.own) ≤ tally state.accepted state.settings.own → ⊥
-      over h = omega arith
+  next_fresh = grind (arith, common_steps)
 
   next_timely : early (known state) (next_message state class order) ≡ false
   next_timely =

@@ -17,9 +17,13 @@ Follows message station number = (1 ≤ number) × (number ≤ count_of message 
 abbrev pub follows : Message → Message → Bool
 follows message other = nat_le 1 other.number && nat_le other.number (count_of message other.station)
 
+-- some count is larger than the other one at its place
+abbrev pub counts_exceed : List ℕ → List ℕ → Bool
+counts_exceed counts others = any (λ place. nat_lt (slice_index others place) (slice_index counts place))
+
 -- the first message has a larger count than the second for some station
 abbrev pub exceeds : Message → Message → Bool
-exceeds message other = any (λ place. nat_lt (count_of other (suc place)) (count_of message (suc place)))
+exceeds message other = counts_exceed message.after other.after
 
 -- two lists of numbers are equal
 abbrev pub same_numbers : List ℕ → List ℕ → Bool

@@ -2,12 +2,9 @@
 use Rattle.std.specs.Prelude.{◌≡◌, ℕ, zero, suc, Bool, true, false, cond, ◌⊎◌, List, [], ◌∷◌, Some, None, Option}
 use Rattle.board.specs.Sets.{has}
 use Rattle.ties.specs.Ties.{TieMeaning}
-use Rattle.ties.specs.declared.tie.Head.{Head}
 use Rattle.wire.specs.declared.message.Message.{Message}
-
 -- a message as a tie order sees it
-abbrev pub as_head : Message → Head
-as_head message = record { station = message.station; class = message.class }
+pub use Rattle.ties.specs.Ties.{as_head}
 
 -- the first message goes before the second in a wave
 abbrev pub goes_before : TieMeaning → ℕ → Message → Message → Bool

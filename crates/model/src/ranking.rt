@@ -1,11 +1,11 @@
 // Putting the heads of the sources into the order of a wave.
-ghost use Rattle.std.specs.Prelude.{◌≡◌, ◌+◌, ◌<◌, ◌≤◌, length, take};
-ghost use Rattle.model.specs.Arrays.{Sized, heads_by_station, place_for, source_head, wave_messages};
-ghost use Rattle.model.specs.Waves.{put_in, wave_of};
+ghost use Rattle.std.specs.Prelude.{◌≡◌, ◌≤◌, length};
+ghost use Rattle.model.specs.Arrays.{heads_by_station, place_for, wave_messages};
+ghost use Rattle.model.specs.Waves.{wave_of};
 
-use crate::entry::NOTHING;
-use crate::wave::{MOST, Wave};
+use crate::wave::Wave;
 use crate::waves::is_before;
+use arrayvec::ArrayVec;
 use board::sets::{STATIONS, holds};
 use ties::TieOrder;
 use wire::Message;
@@ -19,64 +19,26 @@ pub fn wave_of<T: TieOrder>(
 ) -> Wave
     ensures messages { wave_messages result ≡ wave_of (T.means order.now) wave (heads_by_station heads.now) sources }
     ensures sources { result.sources ≡ sources }
-    ensures sized { Sized result }
 {
-    let mut messages = [NOTHING; MOST];
-    let mut count = 0;
-    for place in 0..STATIONS {
-        if let Some(head) = head_of_source(heads, sources, place) {
-            put_at_its_place(order, wave, &head, &mut messages, count);
-            count += 1;
+    let mut messages = ArrayVec::new();
+    for (place, head) in heads.iter().enumerate() {
+        if let Some(head) = head
+            && holds(sources, place)
+        {
+            messages.insert(find_place(order, wave, head, &messages), *head);
         }
     }
-    Wave {
-        sources,
-        messages,
-        count,
-    }
+    Wave { sources, messages }
 }
 
-// The head at a place, if its station is a source.
-fn head_of_source(
-    heads: &[Option<Message>; STATIONS],
-    sources: u16,
-    place: usize,
-) -> Option<Message>
-    requires { place < 16 }
-    ensures { result ≡ source_head heads.now sources place }
-{
-    if !holds(sources, place) {
-        return None;
-    }
-    heads[place]
-}
-
-// Puts a message among the first messages of an array, before the first that it goes before.
-fn put_at_its_place<T: TieOrder>(
-    order: &T,
-    wave: u32,
-    message: &Message,
-    messages: &mut [Message; MOST],
-    count: usize,
-)
-    requires { count < 16 }
-    ensures put { take (count + 1) messages.new ≡ put_in (T.means order.now) wave message.now (take count messages.old) }
-    ensures places { length messages.new ≡ 16 }
-{
-    let place = find_place(order, wave, message, &messages[0..count]);
-    messages[count] = *message;
-    messages[place..count + 1].rotate_right(1);
-}
-
-// The first place whose message the given one goes before, or the end.
+// The place that a message takes among others: before the first that it goes before, or at the end.
+// Order and wave stay two parameters, as wave_of and is_before take them: a struct of both would serve here alone.
 fn find_place<T: TieOrder>(order: &T, wave: u32, message: &Message, messages: &[Message]) -> usize
     ensures place { result ≡ place_for (T.means order.now) wave message.now messages.now }
     ensures within { result ≤ length messages.now }
 {
-    for (place, other) in messages.iter().enumerate() {
-        if is_before(order, wave, message, other) {
-            return place;
-        }
-    }
-    messages.len()
+    messages
+        .iter()
+        .position(|other| is_before(order, wave, message, other))
+        .unwrap_or(messages.len())
 }

@@ -1,23 +1,19 @@
 // Who is present, and who votes for whom, by the heads and the released counts.
-ghost use Rattle.std.specs.Prelude.{◌≡◌, ◌<◌, None};
-ghost use Rattle.model.specs.Arrays.{counts_by_station, one_more_if, present_in, raised_counts, voter_sets_in, voters_in, votes_in};
+ghost use Rattle.std.specs.Prelude.{◌≡◌, ◌<◌};
+ghost use Rattle.model.specs.Arrays.{counts_by_station, present_in, raised_counts, voter_sets_in, voters_in, votes_in};
 ghost use Rattle.model.specs.Heads.{is_ready};
 
+use crate::messages::exceeds;
 use crate::waves::votes_for;
-use board::sets::{STATIONS, alone, holds, join};
+use board::sets::{STATIONS, holds, set_of};
+use std::array;
 use wire::Message;
 
 // The stations that have a head.
 pub fn present(heads: &[Option<Message>; STATIONS]) -> u16
     ensures { result ≡ present_in heads.now }
 {
-    let mut set = 0;
-    for place in 0..STATIONS {
-        if heads[place].is_some() {
-            set = join(alone(place), set);
-        }
-    }
-    set
+    set_of(&array::from_fn(|place| heads[place].is_some()))
 }
 
 // For each of sixteen stations, those that vote for its candidate.
@@ -27,80 +23,49 @@ pub fn voter_sets(
 ) -> [u16; STATIONS]
     ensures { result ≡ voter_sets_in heads.now released.now }
 {
-    let mut sets = [0u16; STATIONS];
-    for place in 0..STATIONS {
-        sets[place] = voters(heads, released, place);
-    }
-    sets
+    let vote = Vote { heads, released };
+    array::from_fn(|place| vote.voters(place))
 }
 
-// The stations that vote for the candidate at a place.
-fn voters(heads: &[Option<Message>; STATIONS], released: &[u16; STATIONS], place: usize) -> u16
-    requires { place < 16 }
-    ensures { result ≡ voters_in heads.now released.now place }
-{
-    let mut set = 0;
-    for voter in 0..STATIONS {
-        if does_vote(heads, released, voter, place) {
-            set = join(alone(voter), set);
-        }
-    }
-    set
+// What decides the votes: the head of each station, and how many of its messages are released.
+#[derive(Clone, Copy)]
+struct Vote<'a> {
+    heads: &'a [Option<Message>; STATIONS],
+    released: &'a [u16; STATIONS],
 }
 
-// Whether the station at the one place votes for the candidate at the other.
-fn does_vote(
-    heads: &[Option<Message>; STATIONS],
-    released: &[u16; STATIONS],
-    voter: usize,
-    place: usize,
-) -> bool
-    requires voter { voter < 16 }
-    requires place { place < 16 }
-    ensures { result ≡ votes_in heads.now released.now voter place }
-{
-    let Some(candidate) = heads[place] else {
-        return false;
-    };
-    if !is_ready(released, &candidate) {
-        return false;
+impl Vote<'_> {
+    // The stations that vote for the candidate at a place.
+    fn voters(&self, place: usize) -> u16
+        requires { place < 16 }
+        ensures { result ≡ voters_in self.now.heads.now self.now.released.now place }
+    {
+        set_of(&array::from_fn(|voter| self.does_vote(voter, place)))
     }
-    match heads[voter] {
-        Some(own) => votes_for(&own, &candidate),
-        None => false,
-    }
-}
 
-// Whether all that a message follows is released.
-fn is_ready(released: &[u16; STATIONS], message: &Message) -> bool
-    ensures { result ≡ is_ready (counts_by_station released.now) message.now }
-{
-    for place in 0..STATIONS {
-        if message.after[place] > released[place] {
+    // Whether the station at the one place votes for the candidate at the other.
+    fn does_vote(&self, voter: usize, place: usize) -> bool
+        requires voter { voter < 16 }
+        requires place { place < 16 }
+        ensures { result ≡ votes_in self.now.heads.now self.now.released.now voter place }
+    {
+        let Some(candidate) = &self.heads[place] else {
             return false;
-        }
+        };
+        self.is_ready(candidate) && self.heads[voter].is_some_and(|own| votes_for(&own, candidate))
     }
-    true
+
+    // Whether all that a message follows is released.
+    fn is_ready(&self, message: &Message) -> bool
+        ensures { result ≡ is_ready (counts_by_station self.now.released.now) message.now }
+    {
+        !exceeds(&message.after, self.released)
+    }
 }
 
 // The counts with one more for each source; a count that is as high as it can be stays.
 pub fn with_one_more(counts: &[u16; STATIONS], sources: u16) -> [u16; STATIONS]
     ensures { result ≡ raised_counts counts.now sources }
 {
-    let mut raised = [0u16; STATIONS];
-    for place in 0..STATIONS {
-        raised[place] = one_more_if(holds(sources, place), counts[place]);
-    }
-    raised
-}
-
-// One more if asked for, up to the highest count there is.
-fn one_more_if(asked: bool, count: u16) -> u16
-    ensures { result ≡ one_more_if asked count }
-{
-    if asked {
-        count.saturating_add(1)
-    } else {
-        count
-    }
+    array::from_fn(|place| counts[place].saturating_add(u16::from(holds(sources, place))))
 }

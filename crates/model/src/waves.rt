@@ -5,7 +5,7 @@ ghost use Rattle.model.specs.Laws.{BoardsAreThere, HeadsAreFirst, WavesAreOne};
 ghost use Rattle.model.specs.Waves.{goes_before};
 
 use crate::messages::does_follow;
-use ties::{Head, TieOrder};
+use ties::TieOrder;
 use wire::Message;
 
 // Whether a station with the one head votes for the candidate that the other head is: its own, or one
@@ -16,10 +16,7 @@ pub fn votes_for(head: &Message, candidate: &Message) -> bool
     ensures boards { BoardsAreThere }
     ensures heads { HeadsAreFirst }
 {
-    if head.station == candidate.station {
-        return true;
-    }
-    does_follow(head, candidate)
+    head.station == candidate.station || does_follow(head, candidate)
 }
 
 // Whether the one head goes before the other in a wave. By a lawful order the heads of the sources have
@@ -28,15 +25,5 @@ pub fn is_before<T: TieOrder>(order: &T, wave: u32, message: &Message, other: &M
     ensures answer { result ≡ goes_before (T.means order.now) wave message.now other.now }
     ensures one_wave { WavesAreOne }
 {
-    order.before(wave, as_head(message), as_head(other))
-}
-
-// A message as a tie order sees it.
-fn as_head(message: &Message) -> Head
-    ensures { result ≡ record { station = message.now.station; class = message.now.class } }
-{
-    Head {
-        station: message.station,
-        class: message.class,
-    }
+    order.before(wave, message.into(), other.into())
 }

@@ -7,8 +7,9 @@ ghost use Rattle.rules.specs.Piles.{RollCallsAreLawful};
 ghost use Rattle.rules.specs.RollCalls.{roll_call};
 ghost use Rattle.rules.specs.RollCallLaws.{roll_call_lawful};
 
-use board::sets::{STATIONS, alone, join};
+use board::sets::set_of;
 use board::{Board, Rule, is_group};
+use std::array;
 use wire::Fault;
 
 // The rule of a group of n.
@@ -40,13 +41,7 @@ impl Rule for RollCall {
     }
 
     fn settle(&self, board: &Board) -> Option<u16> {
-        if board.n != self.n {
-            return None;
-        }
-        if !board.all_present() {
-            return None;
-        }
-        Some(candidates(board))
+        (board.n == self.n && board.all_present()).then(|| candidates(board))
     }
 }
 
@@ -54,11 +49,5 @@ impl Rule for RollCall {
 fn candidates(board: &Board) -> u16
     ensures { result ≡ set_of (candidate board.now) }
 {
-    let mut set = 0;
-    for place in 0..STATIONS {
-        if board.has_candidate(place) {
-            set = join(alone(place), set);
-        }
-    }
-    set
+    set_of(&array::from_fn(|place| board.has_candidate(place)))
 }

@@ -8,7 +8,7 @@ use board::{Board, Rule};
 
 mod sentences;
 
-use sentences::{asks_below, settles, sources};
+use sentences::View;
 
 // The rule of Φ over the rule below, for the groups of that rule.
 #[derive(Clone, Copy)]
@@ -50,12 +50,16 @@ impl<R: Rule> Rule for Threshold<R> {
         if board.n != self.below.stations() {
             return None;
         }
-        if asks_below(self.phi, board) {
-            return self.below.settle(board);
+        let view = View {
+            phi: self.phi,
+            board,
+        };
+        if view.asks_below() {
+            self.below.settle(board)
+        } else if view.settles() {
+            Some(view.sources())
+        } else {
+            None
         }
-        if !settles(self.phi, board) {
-            return None;
-        }
-        Some(sources(self.phi, board))
     }
 }

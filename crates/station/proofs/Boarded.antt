@@ -1,5 +1,5 @@
 -- The board that kept heads and counts give is the board of the state. Assumes nothing.
-use Rattle.std.proofs.Common.{◌≡◌, ℕ, zero, suc, ◌<◌, ◌≤◌, Bool, true, false, cond, not, ◌&&◌, eqb, leb, List, map, length, get_or, is_some, Some, None, Ok, Err, Option, sym, refl, ap, ◌∙◌, ap₂, arith}
+use Rattle.std.proofs.Common.{◌≡◌, ℕ, zero, suc, ◌<◌, ◌≤◌, true, false, ◌&&◌, eqb, leb, List, map, length, get_or, is_some, Some, None, Ok, Err, Option, sym, refl, ap, ◌∙◌, ap₂, arith}
 use mathlib.Core.Bool.{Bool-set}
 use mathlib.Core.Logic.{∥∥₁_elim}
 use native.Mathlib.Bridge.{le_prop}
@@ -16,13 +16,12 @@ use Rattle.board.specs.declared.board.Board.{Board}
 use Rattle.board.proofs.Made.{board_of_sets}
 use Rattle.board.proofs.Places.{all_same, mask-same}
 use Rattle.model.specs.Arrays.{counts_by_station, present_in, voter_sets_in, voters_in, votes_in}
-use Rattle.model.specs.Calls.{open_answer, release_decided, settled_wave, shown_board, wave_from}
+use Rattle.model.specs.Calls.{release_decided, settled_wave, shown_board}
 use Rattle.model.specs.Following.{count_of}
 use Rattle.model.specs.Heads.{backs, board_at, is_present, present_set, ready_head, voter_sets, voters_of, votes}
 use Rattle.model.specs.States.{State, is_shut, known, may_open, on_roll, released}
 use Rattle.model.specs.Waves.{HeadsOf, add_head, heads_below, in_order, wave_of}
 use Rattle.model.proofs.BoardLaws.{board_holds}
-use Rattle.model.proofs.Decided.{never-taken}
 use Rattle.model.proofs.Pushed.{tally-few}
 use Rattle.model.proofs.Written.{opened-live}
 use Rattle.ties.specs.Ties.{TieMeaning}
@@ -106,8 +105,8 @@ roll-small state live =
 module _ (station : Station) (live : is_shut (state_of_station station) ≡ false) where
   rolled_few : length (state_of_station station).roll ≤ 4096
   rolled_few =
-      let long = entries-long station.roll.now station.rolled station.roll_fits in
-      let fits = station.roll_fits in
+      let long = entries-long station.roll.places.now station.roll.used station.roll.fits in
+      let fits = station.roll.fits in
       let small = roll-small (state_of_station station) live in
       omega arith
 
@@ -145,23 +144,14 @@ wave-same order number wave heads others sources one same =
 
 -- What a settled board decides.
 
--- a station that the question lets through is open
-pub check-told : (state : State) (done : Unit {0}) → Ok done ≡ open_answer state.settings → is_shut state ≡ false
-check-told state done e = by (may_open state.settings) refl e
-  where
-    by : (may : Bool) → may_open state.settings ≡ may → Ok done ≡ cond may (Ok tt) (Err Setting) → is_shut state ≡ false
-    by true may e = ap not may
-    by false may e = absurd (never-taken Setting done (sym e))
-
-pub settled-told :
-    (state : State) (rule : RuleMeaning) (order : TieMeaning) (board : Board) (sources : ℕ)
+pub decided-by :
+    (state : State) (rule : RuleMeaning) (order : TieMeaning) (board : Board)
     → is_shut state ≡ false → rule.n ≡ state.settings.n → order.n ≡ state.settings.n
-    → board_at state.settings.n (known state) (released state) ≡ Ok board → rule.answer board ≡ Some sources
-    → release_decided state rule order ≡ Ok (wave_from state order sources)
-settled-told state rule order board sources live rule_n order_n board_is answer =
+    → board_at state.settings.n (known state) (released state) ≡ Ok board
+    → release_decided state rule order ≡ settled_wave state order (rule.answer board)
+decided-by state rule order board live rule_n order_n board_is =
     cond-false (is_shut state) (Err Setting) _ live
     ∙ cond-true (eqb rule.n state.settings.n && eqb order.n state.settings.n) _ (Err Setting)
     (and_from (eqb rule.n state.settings.n) (eqb order.n state.settings.n) (eq-eqb rule.n state.settings.n rule_n)
     (eq-eqb order.n state.settings.n order_n))
     ∙ ap (shown_board state rule order) board_is
-    ∙ ap (settled_wave state order) answer

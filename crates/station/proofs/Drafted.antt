@@ -2,9 +2,8 @@
 use Rattle.std.proofs.Common.{◌≡◌, ℕ, suc, ◌+◌, ◌-◌, ◌<◌, ◌≤◌, Bool, true, false, cond, not, eqb, leb, List, length, get_or, set, is_some, Ok, Err, Result, sym, refl, ap, ◌∙◌, subst, add-one, arith}
 use mathlib.Core.Bool.{Bool-set}
 use mathlib.Core.Logic.{∥∥₁_elim}
-use Rattle.std.proofs.lemmas.List.FromFn.{fill_by_all}
 use Rattle.std.proofs.lemmas.Bool.{and_from, and_parts, cond-true, eq-eqb, leb-false, leb-true}
-use Rattle.model.specs.Accepted.{crossed, early, tallies, tally}
+use Rattle.model.specs.Accepted.{crossed, early, tally}
 use Rattle.model.specs.Calls.{block_left, next_message, open_answer, outcome, unless_shut, write_decided, write_of, written_block}
 use Rattle.model.specs.Meanings.{WriteAnswers}
 use Rattle.model.specs.Sound.{MayAccept}
@@ -24,18 +23,6 @@ use Rattle.station.specs.declared.station.Station.{Station}
 use Rattle.station.proofs.Held.{count-told, none_from, used-told}
 use Rattle.station.proofs.Offered.{does}
 use Rattle.station.proofs.Taken.{open_small}
-
--- a refusal of the question is what every call then answers
-pub shut_told :
-    {Decided : Type 0} (state : State) (fault : Fault) (decided : Result Decided Fault)
-    → Err fault ≡ open_answer state.settings → Err fault ≡ unless_shut state decided
-shut_told state fault decided e = by (may_open state.settings) e
-  where
-    by :
-        (may : Bool) → ◌≡◌ {A = Result (Unit {0}) Fault} (Err fault) (cond may (Ok tt) (Err Setting))
-        → Err fault ≡ cond (not may) (Err Setting) decided
-    by true e = absurd (never-taken fault tt e)
-    by false e = let same : fault ≡ Setting = cc in ap Err same
 
 -- The draft.
 
@@ -57,13 +44,13 @@ module _ (station : Station) (live : is_shut (state_of_station station) ≡ fals
       let told = count-told station.accepted state.accepted (station.own - 1) station.accepted_told own_place in
       let below = tally-few state.accepted (suc (station.own - 1)) in
       let used = used-told station in
-      let fits = station.table_fits in
+      let fits = station.table.fits in
       let small = open_small state live in
       omega arith
 
   -- the kept counts are the after-list that it has
   pub drafted :
-      (class : ℕ) (order : List ℕ) → length station.accepted ≡ 16
+      (class : ℕ) (order : List ℕ)
       → record {
         station = station.own;
         number = get_or station.accepted (station.own - 1) 0 + 1;
@@ -72,9 +59,8 @@ module _ (station : Station) (live : is_shut (state_of_station station) ≡ fals
         order = order;
       }
       ≡ next_message state class order
-  unfolding tallies
-  drafted class order long = λ i.
-      record { station = station.own; number = number i; after = after i; class = class; order = order }
+  drafted class order = λ i.
+      record { station = station.own; number = number i; after = station.accepted_told i; class = class; order = order }
     where
       own : suc (station.own - 1) ≡ station.own
       own = let first = own_first in omega arith
@@ -84,11 +70,6 @@ module _ (station : Station) (live : is_shut (state_of_station station) ≡ fals
           add-one (get_or station.accepted (station.own - 1) 0)
           ∙ ap suc (count-told station.accepted state.accepted (station.own - 1) station.accepted_told own_place
           ∙ ap (tally state.accepted) own)
-
-      after : station.accepted ≡ tallies state.accepted
-      after =
-          fill_by_all (λ place. tally state.accepted (suc place)) station.accepted 16 0 long
-          (λ k below. count-told station.accepted state.accepted k station.accepted_told below)
 
 -- A drafted message may be accepted, and fits the block.
 
@@ -144,71 +125,11 @@ module _ (station : Station) (class : ℕ) (order note block : List ℕ) (messag
       ∙ cond-true (fitting station.n message note) (block_of station.n message note) block fits
       ∙ sym (ap (block_left (state_of_station station) note block) decided)
 
--- What the contract of write says.
-abbrev pub Writes : Station → Station → ℕ → List ℕ → List ℕ → List ℕ → List ℕ → Result (Unit {0}) Fault → Type 0
-Writes before after class order note lent-block left r =
-    record {
-      outcome : Does before after (λ state. write_of state class order note lent-block) r;
-      answers : WriteAnswers (state_of_station before) class note lent-block r;
-      block : left ≡ written_block (state_of_station before) class order note lent-block;
-      table :
-          after.table.now
-          ≡ table_after (write_decided (state_of_station before) class order note lent-block) (length (state_of_station before).accepted) before.table.now;
-      roll : after.roll.now ≡ before.roll.now;
-      refused : UnchangedIfRefused r before after;
-      lent : SameMemory before after;
-    }
-
-module _ (before : Station) (class : ℕ) (order note block : List ℕ) where
-  answered :
-      (r : Result (Unit {0}) Fault) → r ≡ (write_of (state_of_station before) class order note block).answer
-      → WriteAnswers (state_of_station before) class note block r
-  answered r told =
-      subst (WriteAnswers (state_of_station before) class note block) (sym told)
-      (write-answers (state_of_station before) class order note block)
-
-  pub refused_write :
-      (r : Result (Unit {0}) Fault) (fault : Fault) → r ≡ Err fault
-      → write_decided (state_of_station before) class order note block ≡ Err fault
-      → Writes before before class order note block block r
-  refused_write r fault returned decided =
-      record {
-        outcome = does before before (λ state. write_of state class order note block) r told (sym left);
-        answers = answered r told;
-        block = sym (ap (block_left (state_of_station before) note block) decided);
-        table = sym (ap (λ d. table_after d (length (state_of_station before).accepted) before.table.now) decided);
-        roll = refl;
-        refused = subst (λ a. UnchangedIfRefused a before before) (sym returned) refl;
-        lent = record { table = refl; roll = refl };
-      }
-    where
-      told : r ≡ (write_of (state_of_station before) class order note block).answer
-      told = returned ∙ sym (ap (λ d. (outcome (state_of_station before) d (λ _. tt) (accepting (state_of_station before))).answer) decided)
-
-      left : (write_of (state_of_station before) class order note block).next ≡ state_of_station before
-      left = ap (λ d. (outcome (state_of_station before) d (λ _. tt) (accepting (state_of_station before))).next) decided
-
-  pub done_write :
-      (after : Station) (message : Message) (filling-left : List ℕ)
-      → write_decided (state_of_station before) class order note block ≡ Ok message
-      → filling-left ≡ written_block (state_of_station before) class order note block
-      → state_of_station after ≡ accepting (state_of_station before) message
-      → after.table.now ≡ set before.table.now (length (state_of_station before).accepted) (holding message)
-      → after.roll.now ≡ before.roll.now → SameMemory before after
-      → Writes before after class order note block filling-left (Ok tt)
-  done_write after message filling-left decided is next table roll lent =
-      record {
-        outcome = does before after (λ state. write_of state class order note block) (Ok tt) told left;
-        answers = answered (Ok tt) told;
-        block = is;
-        table = table ∙ sym (ap (λ d. table_after d (length (state_of_station before).accepted) before.table.now) decided);
-        roll = roll;
-        refused = tt;
-        lent = lent;
-      }
-    where
-      told : Ok tt ≡ (write_of (state_of_station before) class order note block).answer
-      told = sym (ap (λ d. (outcome (state_of_station before) d (λ _. tt) (accepting (state_of_station before))).answer) decided)
-
-      left : state_of_station after ≡ (write_of (state_of_station before) class order note block).next
-      left = next ∙ sym (ap (λ d. (outcome (state_of_station before) d (λ _. tt) (accepting (state_of_station before))).next) decided)
+-- the answers of write come exactly when they should
+pub write_answered :
+    (station : Station) (class : ℕ) (order note block : List ℕ) (r : Result (Unit {0}) Fault)
+    → r ≡ (write_of (state_of_station station) class order note block).answer
+    → WriteAnswers (state_of_station station) class note block r
+write_answered station class order note block r told =
+    subst (WriteAnswers (state_of_station station) class note block) (sym told)
+    (write-answers (state_of_station station) class order note block)

@@ -1,41 +1,54 @@
 -- Going back over the places of a table in search of a message. Assumes nothing.
-use Rattle.std.proofs.Common.{◌≡◌, ℕ, ◌+◌, ◌-◌, ◌<◌, ◌≤◌, true, false, cond, List, length, get_or, Some, None, sym, refl, ap, ◌∙◌, arith}
-use Rattle.std.proofs.lemmas.List.{map_more}
-use Rattle.std.proofs.lemmas.Bool.{cond-false, cond-true}
-use Rattle.model.specs.Accepted.{accepted_as, is_named}
-use Rattle.model.proofs.Pushed.{accepted-push}
-use Rattle.station.specs.Memory.{messages_in}
-use Rattle.station.specs.declared.places.TablePlace.{TablePlace}
+use Rattle.std.proofs.Common.{◌≡◌, ℕ, Bool, true, false, cond, List, [], ◌∷◌, map, Some, None, Option, refl, ap, ◌∙◌, ap₂}
+use mathlib.Core.List.{reverse}
+use Rattle.std.specs.List.{find}
+use Rattle.std.specs.Option.{IsSomeAnd, MatchOption, option_map, option_or}
+use Rattle.std.proofs.lemmas.List.{reverse-append}
+use Rattle.std.proofs.lemmas.List.Folds.{find-append}
+use Rattle.model.specs.Accepted.{accepted_as, is_named, or_else}
+use Rattle.wire.specs.declared.message.Message.{Message}
+use Rattle.station.specs.declared.places.Place.{Place}
 
-module _ (table : List TablePlace) (used place station number : ℕ) (d : TablePlace)
-    (first : 0 < place) (last : place ≤ length table)
-    (so_far : accepted_as (messages_in used table) station number ≡ accepted_as (messages_in place table) station number) where
-  -- the place before
-  one_back :
-      accepted_as (messages_in place table) station number
-      ≡ cond (is_named (get_or table (place - 1) d).message station number) (Some (get_or table (place - 1) d).message)
-      (accepted_as (messages_in (place - 1) table) station number)
-  one_back =
-      ap (λ k. accepted_as (messages_in k table) station number) back
-      ∙ ap (λ ms. accepted_as ms station number) (map_more (λ at. at.message) table (place - 1) d (omega arith))
-      ∙ accepted-push (messages_in (place - 1) table) (get_or table (place - 1) d).message station number
-    where
-      back : place ≡ place - 1 + 1
-      back = omega arith
+-- the place holds the message of this station with this number
+abbrev pub named : ℕ → ℕ → Place Message → Bool
+named station number place = is_named place.content station number
 
-  -- it stands there
-  pub found_there :
-      is_named (get_or table (place - 1) d).message station number ≡ true
-      → Some (get_or table (place - 1) d).message ≡ accepted_as (messages_in used table) station number
-  found_there here = sym (so_far ∙ one_back ∙ cond-true _ _ _ here)
+first_of :
+    (found other : Option (Place Message)) → option_map (λ place. place.content) (option_or found other)
+    ≡ or_else (option_map (λ place. place.content) found) (option_map (λ place. place.content) other)
+first_of (Some place) other = refl
+first_of None other = refl
 
-  -- it does not
-  pub not_there :
-      is_named (get_or table (place - 1) d).message station number ≡ false
-      → accepted_as (messages_in used table) station number ≡ accepted_as (messages_in (place - 1) table) station number
-  not_there other = so_far ∙ one_back ∙ cond-false _ _ _ other
+one_place :
+    (holds : Bool) (place : Place Message)
+    → option_map (λ place. place.content) (cond holds (Some place) None) ≡ cond holds (Some place.content) None
+one_place true place = refl
+one_place false place = refl
 
--- nothing stands in no places
-pub nowhere : (table : List TablePlace) (station number : ℕ) → accepted_as (messages_in 0 table) station number ≡ None
+-- what a search from the newest place back finds is the accepted message
+pub looked-up :
+    (places : List (Place Message)) (station number : ℕ)
+    → option_map (λ place. place.content) (find (named station number) (reverse places))
+    ≡ accepted_as (map (λ place. place.content) places) station number
 unfolding accepted_as
-nowhere table station number = refl
+looked-up [] station number = refl
+looked-up (place ∷ places) station number =
+    ap (λ all. option_map (λ p. p.content) (find (named station number) all)) (reverse-append (place ∷ []) places)
+    ∙ ap (option_map (λ p. p.content)) (find-append (named station number) (reverse places) (place ∷ []))
+    ∙ first_of (find (named station number) (reverse places)) (find (named station number) (place ∷ []))
+    ∙ ap₂ or_else (looked-up places station number) (one_place (named station number place) place)
+
+-- what a value becomes, if there is one
+pub mapped :
+    {Given Made : Type 0} {Told : Given → Made → Type 0} (found : Option Given) (made : Option Made) (tell : Given → Made)
+    → MatchOption found (made ≡ None) (λ x. IsSomeAnd made (Told x)) → ((x : Given) (y : Made) → Told x y → y ≡ tell x)
+    → made ≡ option_map tell found
+mapped (Some x) (Some y) tell cases says = ap Some (says x y cases)
+mapped (Some x) None tell cases says = absurd cases
+mapped None made tell cases says = cases
+
+pub map_twice :
+    {First Second Third : Type 0} (found : Option First) (tell : First → Second) (say : Second → Third)
+    → option_map (λ x. say (tell x)) found ≡ option_map say (option_map tell found)
+map_twice (Some x) tell say = refl
+map_twice None tell say = refl

@@ -4,11 +4,6 @@ use Rattle.std.proofs.lemmas.List.{append_assoc, drop_more, length-append, lengt
 use Rattle.station.specs.Memory.{overwritten}
 
 module _ {Place : Type 0} (memory : List Place) (at : ℕ) where
-  -- nothing is written yet
-  pub overwritten_none : memory ≡ overwritten memory at []
-  overwritten_none =
-      sym (ap (λ k. take at memory ++ drop k memory) (add-zero at) ∙ take-append-drop at memory)
-
   -- one place more
   pub overwritten_more :
       (written : List Place) (x : Place) → at + length written < length memory
@@ -27,11 +22,7 @@ module _ {Place : Type 0} (memory : List Place) (at : ℕ) where
       further : (long : ℕ) → long ≡ length written + 1 → at + length written + 1 ≡ at + long
       further long e = omega arith
 
-  -- the places before stay, and what was written stands after them
-  pub overwritten_before : (written : List Place) → at ≤ length memory → take at (overwritten memory at written) ≡ take at memory
-  overwritten_before written fits =
-      take_at (take at memory) (written ++ drop (at + length written) memory) at (length-take-le at memory fits)
-
+  -- what was written stands after the places before
   pub overwritten_through :
       (written : List Place) (count : ℕ) → length written ≡ count → at ≤ length memory
       → take (at + count) (overwritten memory at written) ≡ take at memory ++ written

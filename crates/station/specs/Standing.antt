@@ -8,15 +8,14 @@ use Rattle.model.specs.declared.entry.Entry.{Entry}
 use Rattle.model.specs.declared.wave.Wave.{Wave}
 use Rattle.wire.specs.declared.fault.Fault.{Fault}
 use Rattle.wire.specs.declared.message.Message.{Message}
-use Rattle.station.specs.declared.places.RollPlace.{RollPlace}
-use Rattle.station.specs.declared.places.TablePlace.{TablePlace}
+use Rattle.station.specs.declared.places.Place.{Place}
 use Rattle.station.specs.declared.station.Station.{Station}
-use Rattle.station.specs.Memory.{holding, holding_entry, overwritten, state_of}
+use Rattle.station.specs.Memory.{holding, overwritten, state_of}
 
 -- the state that a station stands for
 abbrev pub state_of_station : Station → State
 state_of_station station =
-    state_of station.n station.own station.table.now station.used station.roll.now station.rolled station.posted
+    state_of station.n station.own station.table.places.now station.table.used station.roll.places.now station.roll.used station.posted
 
 abbrev pub StandsFor : Station → State → Type 0
 StandsFor station state = state_of_station station ≡ state
@@ -29,11 +28,11 @@ pub record Does {Answer : Type 0} (before after : Station) (call : State → Out
 
 -- the two pieces of lent memory are those that were lent
 pub record SameMemory (before after : Station) : Type 0 where
-  pub table : after.table.ghost_name ≡ before.table.ghost_name
-  pub roll : after.roll.ghost_name ≡ before.roll.ghost_name
+  pub table : after.table.places.ghost_name ≡ before.table.places.ghost_name
+  pub roll : after.roll.places.ghost_name ≡ before.roll.places.ghost_name
 
 -- what a table holds after a message was taken in, or refused
-abbrev pub table_after : Result Message Fault → ℕ → List TablePlace → List TablePlace
+abbrev pub table_after : Result Message Fault → ℕ → List (Place Message) → List (Place Message)
 table_after (Ok message) used table = slice_set table used (holding message)
 table_after (Err fault) used table = table
 
@@ -62,19 +61,6 @@ abbrev pub entries_of : Station → Wave → List Entry
 entries_of station wave = as_entries (next_wave (state_of_station station)) (wave_messages wave)
 
 -- what a roll holds after a wave was put on it, or was not
-abbrev pub roll_after : Result (List Entry) Fault → ℕ → List RollPlace → List RollPlace
-roll_after (Ok entries) rolled roll = overwritten roll rolled (map holding_entry entries)
+abbrev pub roll_after : Result (List Entry) Fault → ℕ → List (Place Entry) → List (Place Entry)
+roll_after (Ok entries) rolled roll = overwritten roll rolled (map holding entries)
 roll_after (Err fault) rolled roll = roll
-
--- a station that differs from another only in what its roll holds
-pub record SameButRoll (before after : Station) : Type 0 where
-  pub n : after.n ≡ before.n
-  pub own : after.own ≡ before.own
-  pub table : after.table.now ≡ before.table.now
-  pub used : after.used ≡ before.used
-  pub rolled : after.rolled ≡ before.rolled
-  pub posted : after.posted ≡ before.posted
-  pub waves : after.waves ≡ before.waves
-  pub accepted : after.accepted ≡ before.accepted
-  pub released : after.released ≡ before.released
-  pub lent : SameMemory before after

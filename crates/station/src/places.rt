@@ -3,27 +3,30 @@ use model::Entry;
 use model::entry::NOTHING;
 use wire::Message;
 
-// One place of the message table.
+// The most places of a message table and of a roll.
+pub const PLACES: usize = 4096;
+
+// One place of lent memory.
 #[derive(Clone, Copy)]
-pub struct TablePlace {
-    pub(crate) message: Message,
+pub struct Place<T> {
+    pub(crate) content: T,
 }
+
+// One place of the message table.
+pub type TablePlace = Place<Message>;
 
 // One place of the roll.
-#[derive(Clone, Copy)]
-pub struct RollPlace {
-    pub(crate) entry: Entry,
+pub type RollPlace = Place<Entry>;
+
+impl Place<Message> {
+    // A place to lend. What a lent place holds before the day does not matter.
+    pub const EMPTY: TablePlace = Place { content: NOTHING };
 }
 
-impl TablePlace {
+impl Place<Entry> {
     // A place to lend. What a lent place holds before the day does not matter.
-    pub const EMPTY: TablePlace = TablePlace { message: NOTHING };
-}
-
-impl RollPlace {
-    // A place to lend. What a lent place holds before the day does not matter.
-    pub const EMPTY: RollPlace = RollPlace {
-        entry: Entry {
+    pub const EMPTY: RollPlace = Place {
+        content: Entry {
             wave: 0,
             message: NOTHING,
         },

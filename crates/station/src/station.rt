@@ -1,13 +1,18 @@
 // The station.
-ghost use Rattle.std.specs.Prelude.{◌≡◌, ◌≤◌, true, length};
+ghost use Rattle.std.specs.Prelude.{◌≡◌, ◌≤◌};
+ghost use Rattle.model.specs.Accepted.{tallies};
 ghost use Rattle.model.specs.Sound.{Sound};
 ghost use Rattle.model.specs.States.{last_wave, on_roll};
-ghost use Rattle.station.specs.Memory.{counts, entries_in, messages_in, state_of};
+ghost use Rattle.station.specs.Memory.{contents_in, state_of};
 
-use crate::places::{RollPlace, TablePlace};
+use crate::lent::Lent;
+use board::sets::STATIONS;
+use model::Entry;
+use wire::Message;
 
 mod deciding;
 mod finding;
+mod open;
 mod opening;
 mod posting;
 mod releasing;
@@ -22,23 +27,19 @@ pub struct Station<'a> {
     // how many stations the group has, and which of them this is
     n: u8,
     own: u8,
-    // the message table, and how many of its places hold accepted messages
-    table: &'a mut [TablePlace],
-    used: usize,
-    // the roll, how many of its places hold entries, and how many of these are posted
-    roll: &'a mut [RollPlace],
-    rolled: usize,
+    // the message table, which holds the accepted messages
+    table: Lent<'a, Message>,
+    // the roll, and how many of its entries are posted
+    roll: Lent<'a, Entry>,
     posted: usize,
     // the number of the last wave
     waves: u32,
     // how many messages of each station are accepted, and how many are on the roll
-    accepted: [u16; 16],
-    released: [u16; 16],
-    ghost table_fits: { used ≤ length table.now },
-    ghost roll_fits: { rolled ≤ length roll.now },
-    ghost posts_fit: { posted ≤ rolled },
-    ghost waves_told: { waves ≡ last_wave (entries_in rolled roll.now) },
-    ghost accepted_told: { counts accepted (messages_in used table.now) ≡ true },
-    ghost released_told: { counts released (on_roll (entries_in rolled roll.now)) ≡ true },
-    ghost sound: { ∥ Sound (state_of n own table.now used roll.now rolled posted) ∥₁ },
+    accepted: [u16; STATIONS],
+    released: [u16; STATIONS],
+    ghost posts_fit: { posted ≤ roll.used },
+    ghost waves_told: { waves ≡ last_wave (contents_in roll.used roll.places.now) },
+    ghost accepted_told: { accepted ≡ tallies (contents_in table.used table.places.now) },
+    ghost released_told: { released ≡ tallies (on_roll (contents_in roll.used roll.places.now)) },
+    ghost sound: { ∥ Sound (state_of n own table.places.now table.used roll.places.now roll.used posted) ∥₁ },
 }

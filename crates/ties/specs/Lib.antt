@@ -1,3 +1,5 @@
 pub mod Sizes
 pub mod Ties
+pub mod Keys
+pub mod KeyLaws
 pub mod Orders

@@ -1,17 +1,8 @@
 -- The three tie orders, by their formulas. Assumes nothing.
-use Rattle.std.specs.Prelude.{ℕ, ◌+◌, ◌-◌, ◌%◌, Bool, cond, not, ◌&&◌, ◌||◌, Ok, Err, Result, ◌==◌, nat_le, nat_lt}
+use Rattle.std.specs.Prelude.{ℕ, ◌+◌, ◌-◌, ◌%◌, cond, ◌&&◌, ◌||◌, Ok, Err, Result, ◌==◌, nat_le, nat_lt}
 use Rattle.wire.specs.declared.fault.Fault.{Fault}
-use Rattle.ties.specs.declared.orders.ClassOrder.{ClassOrder}
-use Rattle.ties.specs.declared.orders.StationOrder.{StationOrder}
-use Rattle.ties.specs.declared.orders.TurnOrder.{TurnOrder}
-use Rattle.ties.specs.declared.tie.Head.{Head}
-use Rattle.ties.specs.Ties.{TieMeaning}
-
--- what gets an answer other than no: a wave from 1, and two different stations of the group
-abbrev pub asked : ℕ → ℕ → Head → Head → Bool
-asked n wave a b =
-    nat_le 1 wave && (nat_le 1 a.station && (nat_le a.station n && (nat_le 1 b.station && (nat_le b.station n
-    && not (a.station == b.station)))))
+use Rattle.ties.specs.declared.orders.OrderBy.{OrderBy}
+use Rattle.ties.specs.Ties.{TieMeaning, asked}
 
 -- the lower station
 abbrev pub station_order : ℕ → TieMeaning
@@ -45,14 +36,6 @@ class_order n =
     }
 
 -- an order that was made, by the size it is for
-abbrev pub station_order_of : Result StationOrder Fault → Result ℕ Fault
-station_order_of (Ok order) = Ok order.0.n
-station_order_of (Err fault) = Err fault
-
-abbrev pub turn_order_of : Result TurnOrder Fault → Result ℕ Fault
-turn_order_of (Ok order) = Ok order.0.n
-turn_order_of (Err fault) = Err fault
-
-abbrev pub class_order_of : Result ClassOrder Fault → Result ℕ Fault
-class_order_of (Ok order) = Ok order.0.n
-class_order_of (Err fault) = Err fault
+abbrev pub order_of : {Key : Type 0} → Result (OrderBy Key) Fault → Result ℕ Fault
+order_of (Ok order) = Ok order.size.n
+order_of (Err fault) = Err fault

@@ -1,6 +1,11 @@
 -- What a tie order means, and the laws it keeps. Assumes nothing.
-use Rattle.std.specs.Prelude.{◌≡◌, ℕ, ◌≤◌, Bool, true, false, not}
+use Rattle.std.specs.Prelude.{◌≡◌, ℕ, ◌≤◌, Bool, true, false, not, ◌&&◌, ◌==◌, nat_le}
+use Rattle.wire.specs.declared.message.Message.{Message}
 use Rattle.ties.specs.declared.tie.Head.{Head}
+
+-- a message as a tie order sees it
+abbrev pub as_head : Message → Head
+as_head message = record { station = message.station; class = message.class }
 
 -- the size of its group, and whether one head goes before another in a wave
 pub record TieMeaning : Type 0 where
@@ -14,6 +19,12 @@ Member n head = (1 ≤ head.station) × (head.station ≤ n)
 -- heads of different stations
 abbrev pub Apart : Head → Head → Type 0
 Apart a b = a.station ≡ b.station → ⊥
+
+-- what gets an answer other than no: a wave from 1, and two different stations of the group
+abbrev pub asked : ℕ → ℕ → Head → Head → Bool
+asked n wave a b =
+    nat_le 1 wave && (nat_le 1 a.station && (nat_le a.station n && (nat_le 1 b.station && (nat_le b.station n
+    && not (a.station == b.station)))))
 
 pub record Lawful (order : TieMeaning) : Type 0 where
   -- of two heads of different stations of the group, in a wave from 1, exactly one goes first

@@ -5,6 +5,6 @@ pub mod orders;
 pub mod size;
 pub mod tie;
 
-pub use orders::{ClassOrder, StationOrder, TurnOrder};
+pub use orders::{ByClass, ByStation, ByTurn, ClassOrder, Key, OrderBy, StationOrder, TurnOrder};
 pub use size::Size;
 pub use tie::{Head, TieOrder, first_of};

@@ -1,5 +1,7 @@
 // The size of a group.
-ghost use Rattle.std.specs.Prelude.{◌≤◌};
+ghost use Rattle.std.specs.Prelude.{◌≡◌, ◌≤◌};
+
+use wire::{Fault, is_group};
 
 // How many stations a group has: 1 to 16.
 #[derive(Clone, Copy)]
@@ -9,4 +11,23 @@ pub struct Size {
     ghost few: { n ≤ 16 },
 }
 
-pub mod calls;
+impl Size {
+    ghost use Rattle.ties.specs.Sizes.{made_for, size_of};
+
+    // The size n, or a refusal of any n outside 1 to 16.
+    pub fn new(n: u8) -> Result<Size, Fault>
+        ensures { size_of result ≡ made_for n }
+    {
+        if is_group(n) {
+            Ok(Size { n })
+        } else {
+            Err(Fault::Setting)
+        }
+    }
+
+    pub fn get(self) -> u8
+        ensures { result ≡ self.n }
+    {
+        self.n
+    }
+}

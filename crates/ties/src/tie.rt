@@ -1,12 +1,26 @@
 // What a tie order is.
 ghost use Rattle.std.specs.Prelude.{◌≡◌, if◌then◌else◌};
-ghost use Rattle.ties.specs.Ties.{Lawful, TieMeaning};
+ghost use Rattle.ties.specs.Ties.{Lawful, TieMeaning, as_head};
+
+use wire::Message;
 
 // A head, the first unreleased message of a station, as a tie order sees it.
-#[derive(Clone, Copy)]
+#[derive(Clone, Copy, PartialEq, Eq, Debug)]
 pub struct Head {
     pub station: u8,
     pub class: u8,
+}
+
+// A message as a tie order sees it.
+impl From<&Message> for Head {
+    ghost from_gives = { λ message head. head ≡ as_head message.now };
+
+    fn from(message: &Message) -> Head {
+        Head {
+            station: message.station,
+            class: message.class,
+        }
+    }
 }
 
 // A deterministic order inside a batch: it says, for one group's size, which of two heads goes first

@@ -7,3 +7,5 @@ pub mod Seals
 pub mod Filled
 pub mod Refilled
 pub mod Damage
+pub mod Arrays
+pub mod Laid

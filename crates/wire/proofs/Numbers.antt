@@ -1,7 +1,18 @@
 -- Numbers of two bytes and of four, the lowest byte first. Assumes nothing.
-use Rattle.std.proofs.Common.{◌≡◌, ℕ, ◌+◌, ◌*◌, ◌/◌, ◌%◌, ◌^◌, ◌<◌, [], ◌∷◌, sym, ap, ◌∙◌, arith}
+use Rattle.std.proofs.Common.{◌≡◌, ℕ, ◌+◌, ◌*◌, ◌/◌, ◌%◌, ◌^◌, ◌<◌, List, [], ◌∷◌, sym, ap, ◌∙◌, arith, w32, get_or, add-zero}
+use Rattle.std.specs.Int.{from_le_bytes}
+use Rattle.std.specs.List.{between}
+use Rattle.std.proofs.lemmas.List.Edits.{get_or-between}
 use Rattle.std.proofs.lemmas.Nat.{div-add-mod', shr-shr}
-use Rattle.wire.specs.Words.{in_four}
+use Rattle.wire.specs.Words.{byte, four_bytes, in_four}
+
+-- a number as it is read from the part of a block that holds it
+pub four_read : (block : List ℕ) (place : ℕ) → from_le_bytes w32 (between place (place + 4) block) ≡ four_bytes block place
+four_read block place =
+    rw (at 0 (omega arith), at 1 (omega arith), at 2 (omega arith), at 3 (omega arith), add-zero)
+  where
+    at : (k : ℕ) → k < 4 → get_or (between place (place + 4) block) k 0 ≡ byte block (place + k)
+    at k h = get_or-between block place (place + 4) k 0 (omega arith)
 
 -- a number is told by its bytes
 

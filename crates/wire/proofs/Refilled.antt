@@ -3,6 +3,7 @@ use Rattle.std.proofs.Common.{◌≡◌, ℕ, zero, suc, ◌+◌, ◌-◌, ◌*�
 use Rattle.std.specs.List.{between}
 use Rattle.std.proofs.lemmas.List.FromFn.{get_or-map-range_with_len, length-map-range_with_len}
 use Rattle.std.proofs.lemmas.List.{ext_get_or, get_or-drop, get_or_past, get_or-take, length-drop, length-take-le, take-append-drop}
+use Rattle.std.proofs.lemmas.List.Edits.{get_or-between, length-between}
 use Rattle.std.proofs.lemmas.Bool.{cases_lt, cond-true, eq-eqb}
 use Rattle.wire.specs.declared.fault.Fault.TheVariants.{Length, Layout}
 use Rattle.wire.specs.Laws.{FillsAgain}
@@ -14,16 +15,6 @@ use Rattle.wire.proofs.Numbers.{four_again, in_two-high, in_two-low}
 use Rattle.wire.proofs.Ranges.{within_at}
 use Rattle.wire.proofs.Seals.{check_sum-same}
 use Rattle.wire.proofs.Verdicts.{ReadsWell, reads-well}
-
--- what stands at a place of a part of a list
-at-between :
-    (xs : List ℕ) (from to k : ℕ) → from + k < to → get_or (between from to xs) k 0 ≡ byte xs (from + k)
-at-between xs from to k inside =
-    get_or-take (to - from) (drop from xs) k 0 (omega arith) ∙ get_or-drop from xs k 0
-
-length-between : (xs : List ℕ) (from to : ℕ) → from ≤ to → to ≤ length xs → length (between from to xs) ≡ to - from
-length-between xs from to order inside =
-    length-take-le (to - from) (drop from xs) (omega (arith, length-drop from xs))
 
 module _
     (block : List ℕ) (contents : Contents) (reads : reading block ≡ Ok contents)
@@ -48,11 +39,11 @@ module _
   sixteen = length-map-range_with_len (λ j. two_bytes block (6 + 2 * j)) 0 16
 
   eight : length message.order ≡ 8
-  eight = length-between block 38 46 (omega arith) (omega (arith, well.long))
+  eight = length-between block 38 46 (omega (arith, well.long))
 
   note_length : length note ≡ byte block 46
   note_length =
-      length-between block 47 (note_end block) (omega arith) (omega (arith, well.long, well.short))
+      length-between block 47 (note_end block) (omega (arith, well.long, well.short))
       ∙ back (byte block 46)
     where
       back : (k : ℕ) → 47 + k - 47 ≡ k
@@ -97,7 +88,7 @@ module _
       whole i = omega arith
 
   at_38 : (k : ℕ) → k < 8 → byte part (38 + k) ≡ byte block (38 + k)
-  at_38 k h = at_order n message note sixteen eight k h ∙ at-between block 38 46 k (omega arith)
+  at_38 k h = at_order n message note sixteen eight k h ∙ get_or-between block 38 46 k 0 (omega arith)
 
   at_46 : byte part 46 ≡ byte block 46
   at_46 = at_length n message note sixteen eight ∙ note_length
@@ -108,9 +99,9 @@ module _
       let i = place - note_end block in
       let zero-there =
       within_at 0 0 (between (note_end block) 508 block) (place - note_end block)
-      (omega (arith, length-between block (note_end block) 508 (omega (arith, well.short)) (omega (arith, well.long))))
+      (omega (arith, length-between block (note_end block) 508 (omega (arith, well.long))))
       well.spare in
-      let at = at-between block (note_end block) 508 (place - note_end block) (omega arith) in
+      let at = get_or-between block (note_end block) 508 (place - note_end block) 0 (omega arith) in
       let there = ap (byte block) (again (note_end block) place past) in
       omega arith
     where
@@ -121,7 +112,7 @@ module _
   at_47 k h =
       at_note n message note sixteen eight k
       ∙ elim (cases_lt k (byte block 46)) [
-        | inl inside ↦ at-between block 47 (note_end block) k (omega arith)
+        | inl inside ↦ get_or-between block 47 (note_end block) k 0 (omega arith)
         | inr past ↦ get_or_past note k 0 (omega (arith, note_length)) ∙ sym (spare_at (47 + k) (omega arith) (omega arith))
       ]
 

@@ -3,6 +3,10 @@ use Rattle.std.specs.Prelude.{◌≡◌, ℕ, ◌-◌, Bool, ◌&&◌, List, len
 use Rattle.wire.specs.declared.message.Message.{Message}
 use Rattle.wire.specs.Words.{all_within}
 
+-- a group has 1 to 16 stations
+abbrev pub is_group : ℕ → Bool
+is_group n = nat_le 1 n && nat_le n 16
+
 -- how many messages of station j the message follows; stations count from 1
 abbrev pub count : Message → ℕ → ℕ
 count message station = slice_index message.after (station - 1)

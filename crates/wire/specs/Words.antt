@@ -1,6 +1,7 @@
 -- The words in which the format is stated: bytes by place, numbers with the lowest byte first, ranges, sums.
 -- Assumes nothing.
-use Rattle.std.specs.Prelude.{ℕ, zero, suc, ◌+◌, ◌*◌, ◌/◌, ◌%◌, Bool, true, ◌&&◌, List, [], ◌∷◌, nat_le, slice_index}
+use Rattle.std.specs.Prelude.{ℕ, zero, suc, ◌+◌, ◌*◌, ◌/◌, ◌%◌, Bool, ◌&&◌, List, [], ◌∷◌, nat_le, slice_index}
+use Rattle.std.specs.List.{list_all}
 
 -- the byte at a place, counted from 0
 abbrev pub byte : List ℕ → ℕ → ℕ
@@ -26,8 +27,7 @@ in_four number =
 
 -- every number of the list lies from low to high
 abbrev pub all_within : ℕ → ℕ → List ℕ → Bool
-all_within low high [] = true
-all_within low high (number ∷ numbers) = nat_le low number && (nat_le number high && all_within low high numbers)
+all_within low high numbers = list_all (λ number. nat_le low number && nat_le number high) numbers
 
 -- the sum of a term over the places below n
 unfoldable pub sum_below : ℕ → (ℕ → ℕ) → ℕ

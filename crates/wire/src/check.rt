@@ -8,11 +8,11 @@ use crate::places::CHECK_AT;
 pub fn sum(block: &[u8]) -> u32
     ensures { result ≡ check_sum block.now }
 {
+    // A loop over the bytes with their index, as the format states the sum.
     let mut sum = 0;
-    for (place, byte) in block.iter().enumerate() {
-        if place < CHECK_AT {
-            sum += weight(place) * u32::from(*byte);
-        }
+    let checked = &block[..block.len().min(CHECK_AT)];
+    for (place, byte) in checked.iter().enumerate() {
+        sum += weight(place) * u32::from(*byte);
     }
     sum
 }

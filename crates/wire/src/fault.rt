@@ -1,6 +1,9 @@
 // The one list of refusals: every call of every layer answers one of these, and passes it upward by `?`.
-ghost use Rattle.std.specs.Prelude.{◌≡◌, codes};
+ghost use Rattle.std.specs.Prelude.{◌≡◌, Some};
 ghost use Rattle.wire.specs.Faults.{numbered, worded};
+
+use std::error::Error;
+use std::fmt;
 
 // Why a call refused; the number is part of the interface.
 #[derive(Clone, Copy, PartialEq, Eq, Debug)]
@@ -49,3 +52,22 @@ impl Fault {
         }
     }
 }
+
+impl From<Fault> for u8 {
+    ghost from_gives = { λ fault number. number ≡ numbered fault };
+
+    fn from(fault: Fault) -> u8 {
+        fault.number()
+    }
+}
+
+// A refusal is shown by its word.
+impl fmt::Display for Fault {
+    ghost output = { λ fault. Some (worded fault) };
+
+    fn fmt<W: fmt::Write>(&self, f: &mut fmt::Formatter<W>) -> fmt::Result {
+        f.write_str(self.word())
+    }
+}
+
+impl Error for Fault {}

@@ -13,6 +13,6 @@ pub mod reading;
 pub use fault::Fault;
 pub use filling::fill;
 pub use labelling::label;
-pub use message::Message;
+pub use message::{Message, is_group};
 pub use places::BLOCK;
 pub use reading::{Reading, read, verify};

@@ -1,8 +1,6 @@
 // A message: what one station says to the whole group.
 ghost use Rattle.std.specs.Prelude.{◌≡◌, ◌≤◌};
-ghost use Rattle.wire.specs.Messages.{counts_fit, well_formed, Shaped};
-
-use crate::bytes::counts_within;
+ghost use Rattle.wire.specs.Messages.{counts_fit, is_group, well_formed, Shaped};
 
 // The most stations that a group has.
 pub const STATIONS: usize = 16;
@@ -13,9 +11,16 @@ pub const NUMBERS: u16 = 4096;
 // The highest class.
 pub const CLASSES: u8 = 3;
 
+// Whether a group may have n stations: 1 to 16.
+pub fn is_group(n: u8) -> bool
+    ensures { result ≡ is_group n }
+{
+    (1..=STATIONS).contains(&(n as usize))
+}
+
 // A message of a group. A station is one process of the group; the after-list is the message's
 // vector timestamp: count j says that it follows messages 1 up to that count of station j.
-#[derive(Clone, Copy)]
+#[derive(Clone, Copy, Default, PartialEq, Eq, Debug)]
 pub struct Message {
     pub station: u8,
     pub number: u16,
@@ -30,16 +35,12 @@ impl Message {
         ensures answer { result ≡ well_formed n self.now }
         ensures shape { Shaped self.now }
     {
-        if n as usize > STATIONS || self.station < 1 || self.station > n {
-            return false;
-        }
-        if self.number < 1 || self.number > NUMBERS || self.class > CLASSES {
-            return false;
-        }
-        if self.after[self.station as usize - 1] != self.number - 1 {
-            return false;
-        }
-        counts_fit(n, &self.after)
+        n as usize <= STATIONS
+            && (1..=n).contains(&self.station)
+            && (1..=NUMBERS).contains(&self.number)
+            && self.class <= CLASSES
+            && self.after[self.station as usize - 1] == self.number - 1
+            && counts_fit(n, &self.after)
     }
 }
 
@@ -48,8 +49,6 @@ fn counts_fit(n: u8, after: &[u16; STATIONS]) -> bool
     requires { n ≤ 16 }
     ensures { result ≡ counts_fit n after.now }
 {
-    if !counts_within(after, NUMBERS) {
-        return false;
-    }
-    counts_within(&after[n as usize..], 0)
+    after.iter().all(|count| *count <= NUMBERS)
+        && after[n as usize..].iter().all(|count| *count == 0)
 }

@@ -76,8 +76,8 @@ pub const GREATEST_CHECK: u32 = 746270;
 pub fn assembled(bytes: &[(usize, u8)]) -> [u8; BLOCK] {
     let mut block = [0u8; BLOCK];
     for (place, byte) in bytes {
-        if *place < BLOCK {
-            block[*place] = *byte;
+        if let Some(at) = block.get_mut(*place) {
+            *at = *byte;
         }
     }
     block
@@ -120,8 +120,6 @@ pub fn greatest() -> Message {
 // The block of the greatest fields.
 pub fn greatest_block() -> [u8; BLOCK] {
     let mut block = assembled(&GREATEST);
-    for place in 47..111 {
-        block[place] = 126;
-    }
+    block[47..111].fill(126);
     block
 }

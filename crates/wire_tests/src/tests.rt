@@ -2,7 +2,7 @@
 use crate::blocks::*;
 use std::process::Abort;
 use std::test::Fail;
-use wire::{BLOCK, Fault, Message, check, fill, label, read, verify};
+use wire::{BLOCK, Fault, Message, Reading, check, fill, is_group, label, read, verify};
 
 // A block that an order or a refusal leaves untouched shows this in every place.
 const OTHER: u8 = 170;
@@ -29,68 +29,51 @@ fn the_check_is_the_sum(rt: HostRuntime) {
     assert_eq!(rt; check::sum(&[]), 0);
 }
 
-fn reads_as(
-    rt: &impl Abort,
-    block: &[u8],
-    n: u8,
-    message: &Message,
-    note: &[u8],
-) -> Result<(), Fail> {
-    match read(block) {
-        Ok(reading) => {
-            assert_eq!(rt; reading.n, n);
-            assert_eq!(rt; reading.message.station, message.station);
-            assert_eq!(rt; reading.message.number, message.number);
-            assert!(rt; reading.message.after == message.after);
-            assert_eq!(rt; reading.message.class, message.class);
-            assert!(rt; reading.message.order == message.order);
-            assert!(rt; reading.note == note);
-            Ok(())
-        }
-        Err(_) => Err(Fail::new("refused")),
-    }
+#[test]
+fn reading_gives_the_fields(rt: HostRuntime) {
+    let booked = Reading {
+        n: 3,
+        message: booking(),
+        note: b"HALL",
+    };
+    let short = Reading {
+        n: 1,
+        message: least(),
+        note: b"",
+    };
+    let full = Reading {
+        n: 16,
+        message: greatest(),
+        note: &[126; 64],
+    };
+    assert_eq!(rt; read(&assembled(&BOOKING)), Ok(booked));
+    assert_eq!(rt; read(&assembled(&LEAST)), Ok(short));
+    assert_eq!(rt; read(&greatest_block()), Ok(full));
 }
 
 #[test]
-fn reading_gives_the_fields(rt: HostRuntime) -> Result<(), Fail> {
-    reads_as(&rt, &assembled(&BOOKING), 3, &booking(), b"HALL")?;
-    reads_as(&rt, &assembled(&LEAST), 1, &least(), b"")?;
-    reads_as(&rt, &greatest_block(), 16, &greatest(), &[126; 64])
-}
-
-fn refused(rt: &impl Abort, block: &[u8], expected: Fault) -> Result<(), Fail> {
-    match read(block) {
-        Ok(_) => Err(Fail::new("reads well")),
-        Err(fault) => {
-            assert_eq!(rt; fault, expected);
-            Ok(())
-        }
-    }
-}
-
-#[test]
-fn lengths_are_refused_first(rt: HostRuntime) -> Result<(), Fail> {
+fn lengths_are_refused_first(rt: HostRuntime) {
     let long = [1u8; 1024];
-    refused(&rt, &long[0..0], Fault::Length)?;
-    refused(&rt, &long[0..1], Fault::Length)?;
-    refused(&rt, &long[0..511], Fault::Length)?;
-    refused(&rt, &long[0..512], Fault::Check)?;
-    refused(&rt, &long[0..513], Fault::Length)?;
-    refused(&rt, &long, Fault::Length)?;
+    assert_eq!(rt; read(&long[0..0]), Err(Fault::Length));
+    assert_eq!(rt; read(&long[0..1]), Err(Fault::Length));
+    assert_eq!(rt; read(&long[0..511]), Err(Fault::Length));
+    assert_eq!(rt; read(&long[0..512]), Err(Fault::Check));
+    assert_eq!(rt; read(&long[0..513]), Err(Fault::Length));
+    assert_eq!(rt; read(&long), Err(Fault::Length));
     assert_eq!(rt; verify(&long[0..2]), Err(Fault::Length));
     assert_eq!(rt; verify(&[0; BLOCK]), Ok(()));
-    refused(&rt, &[0; BLOCK], Fault::Layout)
+    assert_eq!(rt; read(&[0; BLOCK]), Err(Fault::Layout));
 }
 
 #[test]
-fn every_altered_place_is_refused(rt: HostRuntime) -> Result<(), Fail> {
-    for place in 0..BLOCK {
-        let mut block = assembled(&BOOKING);
-        block[place] ^= 1;
-        refused(&rt, &block, Fault::Check)?;
-        assert_eq!(rt; verify(&block), Err(Fault::Check));
+fn every_altered_place_is_refused(rt: HostRuntime) {
+    let block = assembled(&BOOKING);
+    for (place, byte) in block.iter().enumerate() {
+        let mut altered = block;
+        altered[place] = byte ^ 1;
+        assert_eq!(rt; read(&altered), Err(Fault::Check));
+        assert_eq!(rt; verify(&altered), Err(Fault::Check));
     }
-    Ok(())
 }
 
 // The booking's block with one byte put in place, and the check made to fit by the weight's rule.
@@ -99,20 +82,18 @@ fn relaid(place: usize, byte: u8) -> [u8; BLOCK] {
     if place < 508 {
         block[place] = byte;
     }
-    let mut sum = 0u32;
-    for at in 0..508 {
-        sum = sum.wrapping_add((at as u32 + 1).wrapping_mul(u32::from(block[at])));
-    }
-    let [first, second, third, fourth] = sum.to_le_bytes();
-    block[508] = first;
-    block[509] = second;
-    block[510] = third;
-    block[511] = fourth;
+    let sum = block
+        .iter()
+        .zip(1u32..=508)
+        .fold(0u32, |sum, (byte, weight)| {
+            sum.wrapping_add(weight.wrapping_mul(u32::from(*byte)))
+        });
+    block[508..].copy_from_slice(&sum.to_le_bytes());
     block
 }
 
 #[test]
-fn each_layout_rule_is_kept(rt: HostRuntime) -> Result<(), Fail> {
+fn each_layout_rule_is_kept(rt: HostRuntime) {
     let broken = [
         (0usize, 0u8),
         (0, 2),
@@ -139,7 +120,7 @@ fn each_layout_rule_is_kept(rt: HostRuntime) -> Result<(), Fail> {
         (507, 1),
     ];
     for (place, byte) in broken {
-        refused(&rt, &relaid(place, byte), Fault::Layout)?;
+        assert_eq!(rt; read(&relaid(place, byte)), Err(Fault::Layout));
     }
     for (place, byte) in [
         (3usize, 0u8),
@@ -153,7 +134,6 @@ fn each_layout_rule_is_kept(rt: HostRuntime) -> Result<(), Fail> {
     ] {
         assert!(rt; read(&relaid(place, byte)).is_ok());
     }
-    Ok(())
 }
 
 // A filling of a block of some length is refused, and leaves every byte as it was.
@@ -188,38 +168,18 @@ fn a_refused_filling_changes_nothing(rt: HostRuntime) -> Result<(), Fail> {
     fill_refused(&rt, 3, &booking(), b"\x7f", BLOCK, Fault::Layout)
 }
 
-fn labelled(rt: &impl Abort, block: &[u8], sheet: &[u8], expected: &[u8]) -> Result<(), Fail> {
-    match label(block, sheet) {
-        Ok(part) => {
-            assert!(rt; part == expected);
-            Ok(())
-        }
-        Err(_) => Err(Fail::new("refused")),
-    }
-}
-
-fn label_refused(rt: &impl Abort, block: &[u8], sheet: &[u8], expected: Fault) -> Result<(), Fail> {
-    match label(block, sheet) {
-        Ok(_) => Err(Fail::new("labelled")),
-        Err(fault) => {
-            assert_eq!(rt; fault, expected);
-            Ok(())
-        }
-    }
-}
-
 #[test]
-fn a_label_is_the_note_or_the_name(rt: HostRuntime) -> Result<(), Fail> {
+fn a_label_is_the_note_or_the_name(rt: HostRuntime) {
     let names = b"GATE        HALL        OFFICE      ";
     let mut block = [0u8; BLOCK];
     assert_eq!(rt; fill(3, &booking(), b"", &mut block), Ok(()));
-    labelled(&rt, &block, names, b"HALL        ")?;
-    labelled(&rt, &assembled(&BOOKING), names, b"HALL")?;
-    label_refused(&rt, &assembled(&BOOKING), b"HALL", Fault::Setting)?;
-    label_refused(&rt, &block, b"", Fault::Setting)?;
-    label_refused(&rt, &[0; BLOCK], b"", Fault::Layout)?;
-    label_refused(&rt, &[1; BLOCK], b"", Fault::Check)?;
-    label_refused(&rt, &[], b"", Fault::Length)
+    assert_eq!(rt; label(&block, names), Ok(&b"HALL        "[..]));
+    assert_eq!(rt; label(&assembled(&BOOKING), names), Ok(&b"HALL"[..]));
+    assert_eq!(rt; label(&assembled(&BOOKING), b"HALL"), Err(Fault::Setting));
+    assert_eq!(rt; label(&block, b""), Err(Fault::Setting));
+    assert_eq!(rt; label(&[0; BLOCK], b""), Err(Fault::Layout));
+    assert_eq!(rt; label(&[1; BLOCK], b""), Err(Fault::Check));
+    assert_eq!(rt; label(&[], b""), Err(Fault::Length));
 }
 
 #[test]
@@ -228,4 +188,20 @@ fn faults_have_their_numbers(rt: HostRuntime) {
     assert_eq!(rt; Fault::Setting.number(), 12);
     assert_eq!(rt; Fault::NoBoard.number(), 13);
     assert!(rt; Fault::NothingToPost.word() == "nothing to post");
+    assert_eq!(rt; u8::from(Fault::Setting), 12);
+}
+
+#[test]
+fn faults_are_shown_by_their_words(rt: HostRuntime) -> Result<(), Fail> {
+    let shown = Fault::NothingToPost.to_string(rt.alloc())?;
+    assert!(rt; shown.as_str() == "nothing to post");
+    Ok(())
+}
+
+#[test]
+fn a_group_has_one_to_sixteen_stations(rt: HostRuntime) {
+    assert!(rt; !is_group(0));
+    assert!(rt; is_group(1));
+    assert!(rt; is_group(16));
+    assert!(rt; !is_group(17));
 }

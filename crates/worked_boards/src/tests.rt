@@ -1,19 +1,22 @@
 // The worked boards, run through the code. A set lists its stations from the right: 0b00101 is {1, 3}.
+ghost use Rattle.std.specs.Prelude.{◌≤◌};
+
 use super::ask;
+use board::sets::STATIONS;
 use rules::{LeadStation, RollCall, Threshold};
 use std::test::Fail;
 use wire::Fault;
 
 // No votes yet.
-const NOBODY: [u16; 16] = [0; 16];
+const NOBODY: [u16; STATIONS] = [0; STATIONS];
 
 // The votes for the candidate of one station more.
-fn with(votes: [u16; 16], station: usize, set: u16) -> [u16; 16] {
-    let mut more = votes;
-    if station >= 1 && station <= 16 {
-        more[station - 1] = set;
-    }
-    more
+fn with(mut votes: [u16; STATIONS], station: usize, set: u16) -> [u16; STATIONS]
+    requires first { 1 ≤ station }
+    requires last { station ≤ STATIONS }
+{
+    votes[station - 1] = set;
+    votes
 }
 
 fn over_roll_call(n: u8, phi: u8) -> Result<Threshold<RollCall>, Fault> {

@@ -1,22 +1,12 @@
-use Rattle.std.proofs.Common.{◌≡◌, sym, ap, ◌∙◌, arith}
-use Rattle.board.specs.Sets.{has, some}
-use Rattle.board.proofs.Collected.{some_goes_on}
-use Rattle.board.proofs.Places.{some-none}
-use Rattle.lone_source.specs.Least.{found_lowest, found_none}
+use Rattle.std.proofs.Common.{◌≡◌, true, false, rules, tests}
+use Rattle.std.proofs.lemmas.Iterator.{first_from_Range}
+use Rattle.board.specs.Sets.{has}
+use Rattle.lone_source.specs.Least.{lowest-is}
 use Rattle.lone_source.proofs.lowest.Goals as goal
-
-pub loop-place-init : goal.loop-place-init
-loop-place-init c = some-none (has c.args.set)
-
-pub returns-then-holds : goal.returns-then-holds
-returns-then-holds c =
-    c.alone.ensures
-    ∙ found_lowest c.args.set c.loop-place.place (omega arith) (sym c.if-holds.ensures) c.loop-place.invariant
-
-pub loop-place-preserved : goal.loop-place-preserved
-loop-place-preserved c = some_goes_on (has c.args.set) c.loop-place.place c.loop-place.invariant (sym c.if-holds.ensures)
 
 pub returns : goal.returns
 returns c =
-    let end : 16 ≡ c.loop-place.place = omega arith in
-    found_none c.args.set (ap (some (has c.args.set)) end ∙ c.loop-place.invariant)
+    lowest-is c.args.set c.find.result c.map_or.result
+    (first_from_Range _ _ _ c.find.result (λ place. has c.args.set place ≡ true) (λ place. has c.args.set place ≡ false)
+    c.find.ensures.ran (λ place q call. search (rules, tests)) (λ place q call. search (rules, tests)))
+    (search rules)

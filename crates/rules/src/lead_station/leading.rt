@@ -9,8 +9,9 @@ ghost use Rattle.rules.specs.LeadLaws.{lead_station_lawful};
 ghost use Rattle.rules.specs.LeadMade.{leads_first, leads_last};
 
 use crate::lead_station::LeadStation;
-use board::sets::{STATIONS, alone, holds, join};
+use board::sets::{holds, set_of};
 use board::{Board, Rule, is_group};
+use std::array;
 use wire::Fault;
 
 impl LeadStation {
@@ -36,14 +37,8 @@ impl Rule for LeadStation {
     }
 
     fn settle(&self, board: &Board) -> Option<u16> {
-        if board.n != self.n {
-            return None;
-        }
         let place = usize::from(self.station - 1);
-        if !board.is_present(place) {
-            return None;
-        }
-        Some(chosen_by(board, place))
+        (board.n == self.n && board.is_present(place)).then(|| chosen_by(board, place))
     }
 }
 
@@ -51,34 +46,14 @@ impl Rule for LeadStation {
 fn chosen_by(board: &Board, voter: usize) -> u16
     ensures { result ≡ set_of (chosen_by board.now voter) }
 {
-    let mut set = 0;
-    for place in 0..STATIONS {
-        if is_chosen_by(board, voter, place) {
-            set = join(alone(place), set);
-        }
-    }
-    set
-}
-
-// Whether there is a candidate at a place that the station at another votes for.
-fn is_chosen_by(board: &Board, voter: usize, place: usize) -> bool
-    ensures { result ≡ chosen_by board.now voter place }
-{
-    if !board.has_candidate(place) {
-        return false;
-    }
-    holds(board.voters_of(place), voter)
+    set_of(&array::from_fn(|place| {
+        board.has_candidate(place) && holds(board.voters_of(place), voter)
+    }))
 }
 
 // Whether a group can have n stations, and the station is one of them.
 fn may_lead(n: u8, station: u8) -> bool
     ensures { result ≡ may_lead n station }
 {
-    if !is_group(n) {
-        return false;
-    }
-    if station < 1 {
-        return false;
-    }
-    station <= n
+    is_group(n) && (1..=n).contains(&station)
 }

@@ -1,187 +1,129 @@
 // The sentences of a threshold, each as a question to a board.
-ghost use Rattle.std.specs.Prelude.{◌≡◌, ◌+◌, ◌&&◌, nat_lt};
+ghost use Rattle.std.specs.Prelude.{◌≡◌, ◌+◌, ◌≤◌, ◌&&◌, nat_lt};
 ghost use Rattle.board.specs.Boards.{absent, candidate, lead};
 ghost use Rattle.board.specs.Sets.{any, every, implies, set_of};
-ghost use Rattle.rules.specs.Thresholds.{asks_below, cannot_pass, few_absent, is_led, may_be_led, out_of_it, passes, settles as settles_by, source};
+ghost use Rattle.rules.specs.Thresholds.{asks_below, cannot_pass, few_absent, out_of_it, passes, settles, source};
 
 use board::Board;
-use board::sets::{STATIONS, alone, join};
+use board::sets::{STATIONS, set_of};
+use std::array;
 
-// Whether the rule below answers.
-pub fn asks_below(phi: u8, board: &Board) -> bool
-    ensures { result ≡ asks_below phi board.now }
-{
-    if !are_few_absent(phi, board) {
-        return false;
-    }
-    can_none_pass(phi, board)
+// A board as a threshold of Φ sees it.
+#[derive(Clone, Copy)]
+pub struct View<'a> {
+    pub phi: u8,
+    pub board: &'a Board,
 }
 
-// Whether the board is settled where the rule below does not answer.
-pub fn settles(phi: u8, board: &Board) -> bool
-    ensures { result ≡ settles_by phi board.now }
-{
-    if !are_few_absent(phi, board) {
-        return false;
+impl View<'_> {
+    // Whether the rule below answers.
+    pub fn asks_below(&self) -> bool
+        ensures { result ≡ asks_below self.now.phi self.now.board.now }
+    {
+        self.are_few_absent() && self.can_none_pass()
     }
-    if !does_some_pass(phi, board) {
-        return false;
-    }
-    are_others_out(phi, board)
-}
 
-// The sources where the rule below does not answer.
-pub fn sources(phi: u8, board: &Board) -> u16
-    ensures { result ≡ set_of (source phi board.now) }
-{
-    let mut set = 0;
-    for place in 0..STATIONS {
-        if is_source(phi, board, place) {
-            set = join(alone(place), set);
-        }
+    // Whether the board is settled where the rule below does not answer.
+    pub fn settles(&self) -> bool
+        ensures { result ≡ settles self.now.phi self.now.board.now }
+    {
+        self.are_few_absent() && self.does_some_pass() && self.are_others_out()
     }
-    set
-}
 
-// Whether at most Φ stations are absent.
-fn are_few_absent(phi: u8, board: &Board) -> bool
-    ensures { result ≡ few_absent phi board.now }
-{
-    board.absent_count() <= u32::from(phi)
-}
+    // The sources where the rule below does not answer.
+    pub fn sources(&self) -> u16
+        ensures { result ≡ set_of (source self.now.phi self.now.board.now) }
+    {
+        set_of(&array::from_fn(|place| self.is_source(place)))
+    }
 
-// Whether no candidate can have more than Φ voters.
-fn can_none_pass(phi: u8, board: &Board) -> bool
-    ensures { result ≡ every (λ place. implies (candidate board.now place) (cannot_pass phi board.now place)) }
-{
-    for place in 0..STATIONS {
-        if !is_no_passing_candidate(phi, board, place) {
-            return false;
-        }
+    // Whether at most Φ stations are absent.
+    fn are_few_absent(&self) -> bool
+        ensures { result ≡ few_absent self.now.phi self.now.board.now }
+    {
+        self.board.absent_count() <= u32::from(self.phi)
     }
-    true
-}
 
-// Whether a candidate at a place, if there is one, cannot have more than Φ voters.
-fn is_no_passing_candidate(phi: u8, board: &Board, place: usize) -> bool
-    ensures { result ≡ implies (candidate board.now place) (cannot_pass phi board.now place) }
-{
-    if !board.has_candidate(place) {
-        return true;
+    // Whether no candidate can have more than Φ voters.
+    fn can_none_pass(&self) -> bool
+        ensures { result ≡ every (λ place. implies (candidate self.now.board.now place) (cannot_pass self.now.phi self.now.board.now place)) }
+    {
+        (0..STATIONS).all(|place| self.is_no_passing_candidate(place))
     }
-    does_fall_short(phi, board, place)
-}
 
-// Whether the voters of a candidate, with all that are absent, are at most Φ.
-fn does_fall_short(phi: u8, board: &Board, place: usize) -> bool
-    ensures { result ≡ cannot_pass phi board.now place }
-{
-    board.voter_count(place) + board.absent_count() <= u32::from(phi)
-}
+    // Whether some candidate has more than Φ voters.
+    fn does_some_pass(&self) -> bool
+        ensures { result ≡ any (λ place. candidate self.now.board.now place && passes self.now.phi self.now.board.now place) }
+    {
+        (0..STATIONS).any(|place| self.is_passing_candidate(place))
+    }
 
-// Whether some candidate has more than Φ voters.
-fn does_some_pass(phi: u8, board: &Board) -> bool
-    ensures { result ≡ any (λ place. candidate board.now place && passes phi board.now place) }
-{
-    for place in 0..STATIONS {
-        if is_passing_candidate(phi, board, place) {
-            return true;
-        }
+    // Whether every candidate that is no source cannot have more than Φ voters, and is led.
+    fn are_others_out(&self) -> bool
+        ensures { result ≡ every (out_of_it self.now.phi self.now.board.now) }
+    {
+        (0..STATIONS).all(|place| self.is_out_of_it(place))
     }
-    false
-}
 
-// Whether a place has a candidate with more than Φ voters.
-fn is_passing_candidate(phi: u8, board: &Board, place: usize) -> bool
-    ensures { result ≡ (candidate board.now place && passes phi board.now place) }
-{
-    if !board.has_candidate(place) {
-        return false;
+    // Whether more than Φ stations vote for the candidate at a place.
+    fn passes(&self, place: usize) -> bool
+        ensures { result ≡ passes self.now.phi self.now.board.now place }
+    {
+        self.board.voter_count(place) > u32::from(self.phi)
     }
-    board.voter_count(place) > u32::from(phi)
-}
 
-// Whether a place has a candidate that is a source.
-fn is_source(phi: u8, board: &Board, place: usize) -> bool
-    ensures { result ≡ source phi board.now place }
-{
-    if !board.has_candidate(place) {
-        return false;
+    // Whether the voters of a candidate, with all that are absent, are at most Φ.
+    fn does_fall_short(&self, place: usize) -> bool
+        ensures { result ≡ cannot_pass self.now.phi self.now.board.now place }
+    {
+        self.board.voter_count(place) + self.board.absent_count() <= u32::from(self.phi)
     }
-    if board.voter_count(place) > u32::from(phi) {
-        return true;
-    }
-    !may_be_led(phi, board, place)
-}
 
-// Whether some candidate's lead over a place, with all that are absent, exceeds Φ.
-fn may_be_led(phi: u8, board: &Board, place: usize) -> bool
-    ensures { result ≡ may_be_led phi board.now place }
-{
-    for other in 0..STATIONS {
-        if may_lead(phi, board, other, place) {
-            return true;
-        }
+    // Whether some candidate's lead over a place, with so many votes more, exceeds Φ.
+    fn is_led_with(&self, place: usize, more: u32) -> bool
+        requires { more ≤ 16 }
+        ensures { result ≡ any (λ other. candidate self.now.board.now other && nat_lt self.now.phi (lead self.now.board.now other place + more)) }
+    {
+        (0..STATIONS).any(|other| self.does_lead_with(other, place, more))
     }
-    false
-}
 
-// Whether one place has a candidate whose lead over another, with all that are absent, exceeds Φ.
-fn may_lead(phi: u8, board: &Board, other: usize, place: usize) -> bool
-    ensures { result ≡ (candidate board.now other && nat_lt phi (lead board.now other place + absent board.now)) }
-{
-    if !board.has_candidate(other) {
-        return false;
+    // Whether one place has a candidate whose lead over another, with so many votes more, exceeds Φ.
+    fn does_lead_with(&self, other: usize, place: usize, more: u32) -> bool
+        requires { more ≤ 16 }
+        ensures { result ≡ (candidate self.now.board.now other && nat_lt self.now.phi (lead self.now.board.now other place + more)) }
+    {
+        self.board.has_candidate(other)
+            && self.board.lead_over(other, place) + more > u32::from(self.phi)
     }
-    board.lead_over(other, place) + board.absent_count() > u32::from(phi)
-}
 
-// Whether every candidate that is no source cannot have more than Φ voters, and is led.
-fn are_others_out(phi: u8, board: &Board) -> bool
-    ensures { result ≡ every (out_of_it phi board.now) }
-{
-    for place in 0..STATIONS {
-        if !is_out_of_it(phi, board, place) {
-            return false;
-        }
+    // Whether a place has a candidate with more than Φ voters.
+    fn is_passing_candidate(&self, place: usize) -> bool
+        ensures { result ≡ (candidate self.now.board.now place && passes self.now.phi self.now.board.now place) }
+    {
+        self.board.has_candidate(place) && self.passes(place)
     }
-    true
-}
 
-// The same at one place.
-fn is_out_of_it(phi: u8, board: &Board, place: usize) -> bool
-    ensures { result ≡ out_of_it phi board.now place }
-{
-    if !board.has_candidate(place) {
-        return true;
+    // Whether a candidate at a place, if there is one, cannot have more than Φ voters.
+    fn is_no_passing_candidate(&self, place: usize) -> bool
+        ensures { result ≡ implies (candidate self.now.board.now place) (cannot_pass self.now.phi self.now.board.now place) }
+    {
+        !self.board.has_candidate(place) || self.does_fall_short(place)
     }
-    if is_source(phi, board, place) {
-        return true;
-    }
-    if !does_fall_short(phi, board, place) {
-        return false;
-    }
-    is_led(phi, board, place)
-}
 
-// Whether some candidate's lead over a place is more than Φ.
-fn is_led(phi: u8, board: &Board, place: usize) -> bool
-    ensures { result ≡ is_led phi board.now place }
-{
-    for other in 0..STATIONS {
-        if does_lead(phi, board, other, place) {
-            return true;
-        }
+    // Whether a place has a candidate that is a source.
+    fn is_source(&self, place: usize) -> bool
+        ensures { result ≡ source self.now.phi self.now.board.now place }
+    {
+        self.board.has_candidate(place)
+            && (self.passes(place) || !self.is_led_with(place, self.board.absent_count()))
     }
-    false
-}
 
-// Whether one place has a candidate whose lead over another is more than Φ.
-fn does_lead(phi: u8, board: &Board, other: usize, place: usize) -> bool
-    ensures { result ≡ (candidate board.now other && nat_lt phi (lead board.now other place)) }
-{
-    if !board.has_candidate(other) {
-        return false;
+    // Whether a candidate at a place, if it is no source, cannot have more than Φ voters, and is led.
+    fn is_out_of_it(&self, place: usize) -> bool
+        ensures { result ≡ out_of_it self.now.phi self.now.board.now place }
+    {
+        !self.board.has_candidate(place)
+            || self.is_source(place)
+            || (self.does_fall_short(place) && self.is_led_with(place, 0))
     }
-    board.lead_over(other, place) > u32::from(phi)
 }

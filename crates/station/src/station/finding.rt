@@ -6,7 +6,7 @@ ghost use Rattle.station.specs.Standing.{state_of_station};
 
 use crate::station::Station;
 use board::sets::STATIONS;
-use model::messages::{is_larger, is_of};
+use model::messages::{exceeds, is_larger, is_of};
 use wire::Message;
 
 impl Station<'_> {
@@ -18,50 +18,33 @@ impl Station<'_> {
         if self.is_beyond(station, number) {
             return None;
         }
-        for place in (0..self.used).rev() {
-            let message = self.table[place].message;
-            if is_of(&message, station, number) {
-                return Some(message);
-            }
-        }
-        None
+        self.table
+            .held()
+            .iter()
+            .rev()
+            .find(|place| is_of(&place.content, station, number))
+            .map(|place| place.content)
     }
 
     // Whether a number is above what is accepted from a station of 1 to 16.
     fn is_beyond(&self, station: u8, number: u16) -> bool
         ensures { result ≡ (nat_le 1 station && (nat_le station 16 && nat_lt (tally (state_of_station self.now).accepted station) number)) }
     {
-        if station < 1 {
-            return false;
-        }
-        if station as usize > STATIONS {
-            return false;
-        }
-        self.accepted[station as usize - 1] < number
+        (1..=STATIONS).contains(&(station as usize)) && self.accepted[station as usize - 1] < number
     }
 
     // Whether something that the message follows is not accepted.
     pub(super) fn is_early(&self, message: &Message) -> bool
         ensures { result ≡ early (known (state_of_station self.now)) message.now }
     {
-        for place in 0..STATIONS {
-            if message.after[place] > self.accepted[place] {
-                return true;
-            }
-        }
-        false
+        exceeds(&message.after, &self.accepted)
     }
 
     // Whether, for some station, the last message that the message follows has a larger count than it.
     pub(super) fn is_crossed(&self, message: &Message) -> bool
         ensures { result ≡ crossed (known (state_of_station self.now)) message.now }
     {
-        for place in 0..STATIONS {
-            if self.is_crossed_at(message, place) {
-                return true;
-            }
-        }
-        false
+        (0..STATIONS).any(|place| self.is_crossed_at(message, place))
     }
 
     // The same for the station at a place.
@@ -70,12 +53,9 @@ impl Station<'_> {
         ensures { result ≡ is_crossed_by (known (state_of_station self.now)) message.now place }
     {
         let count = message.after[place];
-        if count == 0 {
-            return false;
-        }
-        match self.find(place as u8 + 1, count) {
-            Some(other) => is_larger(&other, message),
-            None => false,
-        }
+        count != 0
+            && self
+                .find(place as u8 + 1, count)
+                .is_some_and(|other| is_larger(&other, message))
     }
 }

@@ -18,8 +18,8 @@ impl Station<'_> {
         ensures answers { PostAnswers B.Book.step (state_of_station self.old) (B.Book.holds book.old) result }
         ensures book { B.Book.holds book.new ≡ posted_book B.Book.step (state_of_station self.old) (B.Book.holds book.old) }
         ensures book_kept { SameIfRefused result book.old book.new }
-        ensures table { self.new.table.now ≡ self.old.table.now }
-        ensures roll { self.new.roll.now ≡ self.old.roll.now }
+        ensures table { self.new.table.places.now ≡ self.old.table.places.now }
+        ensures roll { self.new.roll.places.now ≡ self.old.roll.places.now }
         ensures refused { UnchangedIfRefused result self.old self.new }
         ensures lent { SameMemory self.old self.new }
     {
@@ -33,17 +33,7 @@ impl Station<'_> {
     fn next_entry(&self) -> Result<Entry, Fault>
         ensures { result ≡ post_decided (state_of_station self.now) }
     {
-        self.check_open()?;
-        self.unposted()
-    }
-
-    // The same of an open station.
-    fn unposted(&self) -> Result<Entry, Fault>
-        ensures { result ≡ to_post (entry_at (state_of_station self.now).roll (suc self.now.posted)) }
-    {
-        if self.posted >= self.rolled {
-            return Err(Fault::NothingToPost);
-        }
-        Ok(self.roll[self.posted].entry)
+        self.open()?;
+        self.entry_at(self.posted + 1).ok_or(Fault::NothingToPost)
     }
 }

@@ -1,6 +1,6 @@
 // Showing the roll.
 ghost use Rattle.std.specs.Prelude.{◌≡◌};
-ghost use Rattle.model.specs.Calls.{show_decided, show_of, shown_entry};
+ghost use Rattle.model.specs.Calls.{show_of};
 ghost use Rattle.model.specs.Meanings.{ShowAnswers};
 ghost use Rattle.model.specs.States.{entry_at};
 ghost use Rattle.station.specs.Standing.{Does, state_of_station};
@@ -16,27 +16,15 @@ impl Station<'_> {
         ensures outcome { Does self.now self.now (λ state. show_of state place) result }
         ensures answers { ShowAnswers (state_of_station self.now) place result }
     {
-        self.shown(place)
+        self.open()?;
+        self.entry_at(place).ok_or(Fault::NoSuchPlace)
     }
 
-    // What show answers.
-    fn shown(&self, place: usize) -> Result<Entry, Fault>
-        ensures { result ≡ show_decided (state_of_station self.now) place }
+    // The entry at a place of the roll, from 1.
+    pub(super) fn entry_at(&self, place: usize) -> Option<Entry>
+        ensures { result ≡ entry_at (state_of_station self.now).roll place }
     {
-        self.check_open()?;
-        self.entry_at(place)
-    }
-
-    // What show answers of an open station.
-    fn entry_at(&self, place: usize) -> Result<Entry, Fault>
-        ensures { result ≡ shown_entry (entry_at (state_of_station self.now).roll place) }
-    {
-        if place < 1 {
-            return Err(Fault::NoSuchPlace);
-        }
-        if place > self.rolled {
-            return Err(Fault::NoSuchPlace);
-        }
-        Ok(self.roll[place - 1].entry)
+        let before = place.checked_sub(1)?;
+        self.roll.held().get(before).map(|place| place.content)
     }
 }

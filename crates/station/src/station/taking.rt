@@ -10,7 +10,6 @@ ghost use Rattle.station.specs.Standing.{Does, SameMemory, UnchangedIfRefused, s
 ghost use Rattle.wire.specs.Messages.{well_formed};
 ghost use Rattle.wire.specs.declared.fault.Fault.TheVariants.{Clash, Repeat};
 
-use crate::places::TablePlace;
 use crate::station::Station;
 use model::messages::are_alike;
 use wire::{Fault, Message, read};
@@ -21,13 +20,22 @@ impl Station<'_> {
     pub fn offer(&mut self, block: &[u8]) -> Result<(), Fault>
         ensures outcome { Does self.old self.new (λ state. offer_of state block.now) result }
         ensures answers { OfferAnswers (state_of_station self.old) block.now result }
-        ensures table { self.new.table.now ≡ table_after (offer_decided (state_of_station self.old) block.now) (length (state_of_station self.old).accepted) self.old.table.now }
-        ensures roll { self.new.roll.now ≡ self.old.roll.now }
+        ensures table { self.new.table.places.now ≡ table_after (offer_decided (state_of_station self.old) block.now) (length (state_of_station self.old).accepted) self.old.table.places.now }
+        ensures roll { self.new.roll.places.now ≡ self.old.roll.places.now }
         ensures refused { UnchangedIfRefused result self.old self.new }
         ensures lent { SameMemory self.old self.new }
     {
+        let message = self.admitted(block)?;
+        self.accept(&message);
+        Ok(())
+    }
+
+    // The message that offer would take in.
+    fn admitted(&self, block: &[u8]) -> Result<Message, Fault>
+        ensures { result ≡ offer_decided (state_of_station self.now) block.now }
+    {
         let message = self.carried(block)?;
-        self.take(&message)
+        self.check_message(&message)
     }
 
     // The message that a block carries to this station: refuses if the station is shut, then as reading
@@ -35,28 +43,12 @@ impl Station<'_> {
     fn carried(&self, block: &[u8]) -> Result<Message, Fault>
         ensures { result ≡ carried_message (state_of_station self.now) block.now }
     {
-        self.check_open()?;
+        self.open()?;
         let reading = read(block)?;
         if reading.n != self.n {
             return Err(Fault::Layout);
         }
         Ok(reading.message)
-    }
-
-    // Takes in a message that is well formed for the group of an open station.
-    fn take(&mut self, message: &Message) -> Result<(), Fault>
-        requires open { is_shut (state_of_station self.old) ≡ false }
-        requires group { well_formed self.old.n message.now ≡ true }
-        ensures answer { result ≡ (take_of (state_of_station self.old) message.now).answer }
-        ensures next { state_of_station self.new ≡ (take_of (state_of_station self.old) message.now).next }
-        ensures table { self.new.table.now ≡ table_after (take_decided (state_of_station self.old) message.now) (length (state_of_station self.old).accepted) self.old.table.now }
-        ensures roll { self.new.roll.now ≡ self.old.roll.now }
-        ensures refused { UnchangedIfRefused result self.old self.new }
-        ensures lent { SameMemory self.old self.new }
-    {
-        self.check_message(message)?;
-        self.accept(message);
-        Ok(())
     }
 
     // Whether a message of the group may be taken in: refuses one that is accepted already, alike or
@@ -83,23 +75,19 @@ impl Station<'_> {
     pub(super) fn is_full(&self) -> bool
         ensures { result ≡ is_full (state_of_station self.now) }
     {
-        self.used >= self.table.len()
+        self.table.is_full()
     }
 
     // Puts a message that may be taken in at the next place of the table.
     pub(super) fn accept(&mut self, message: &Message)
         requires { MayAccept (state_of_station self.old) message.now }
         ensures next { state_of_station self.new ≡ accepting (state_of_station self.old) message.now }
-        ensures table { self.new.table.now ≡ slice_set self.old.table.now (length (state_of_station self.old).accepted) (holding message.now) }
-        ensures roll { self.new.roll.now ≡ self.old.roll.now }
+        ensures table { self.new.table.places.now ≡ slice_set self.old.table.places.now (length (state_of_station self.old).accepted) (holding message.now) }
+        ensures roll { self.new.roll.places.now ≡ self.old.roll.places.now }
         ensures lent { SameMemory self.old self.new }
     {
-        let place = message.station as usize - 1;
-        let mut accepted = self.accepted;
-        accepted[place] += 1;
-        self.table[self.used] = TablePlace { message: *message };
-        self.used += 1;
-        self.accepted = accepted;
+        self.table.push(*message);
+        self.accepted[message.station as usize - 1] += 1;
     }
 }
 

@@ -6,6 +6,7 @@ ghost use Rattle.model.specs.States.{is_shut};
 ghost use Rattle.station.specs.Standing.{Does, SameMemory, UnchangedIfRefused, state_of_station, table_after};
 
 use crate::station::Station;
+use crate::station::open::Open;
 use board::sets::STATIONS;
 use wire::message::CLASSES;
 use wire::reading::is_note;
@@ -25,8 +26,8 @@ impl Station<'_> {
         ensures outcome { Does self.old self.new (λ state. write_of state class order.now note.now block.old) result }
         ensures answers { WriteAnswers (state_of_station self.old) class note.now block.old result }
         ensures block { block.new ≡ written_block (state_of_station self.old) class order.now note.now block.old }
-        ensures table { self.new.table.now ≡ table_after (write_decided (state_of_station self.old) class order.now note.now block.old) (length (state_of_station self.old).accepted) self.old.table.now }
-        ensures roll { self.new.roll.now ≡ self.old.roll.now }
+        ensures table { self.new.table.places.now ≡ table_after (write_decided (state_of_station self.old) class order.now note.now block.old) (length (state_of_station self.old).accepted) self.old.table.places.now }
+        ensures roll { self.new.roll.places.now ≡ self.old.roll.places.now }
         ensures refused { UnchangedIfRefused result self.old self.new }
         ensures lent { SameMemory self.old self.new }
     {
@@ -40,7 +41,7 @@ impl Station<'_> {
     fn draft(&self, class: u8, order: &[u8; 8], note: &[u8], block: &[u8]) -> Result<Message, Fault>
         ensures { result ≡ write_decided (state_of_station self.now) class order.now note.now block.now }
     {
-        self.check_open()?;
+        let open = self.open()?;
         if block.len() != BLOCK {
             return Err(Fault::Length);
         }
@@ -50,32 +51,23 @@ impl Station<'_> {
         if self.is_full() {
             return Err(Fault::Full);
         }
-        Ok(self.next_message(class, order))
-    }
-
-    // The own station's next message: it follows all that is accepted.
-    fn next_message(&self, class: u8, order: &[u8; 8]) -> Message
-        requires { is_shut (state_of_station self.now) ≡ false }
-        ensures { result ≡ next_message (state_of_station self.now) class order.now }
-    {
-        message_after(&self.accepted, self.own, class, order)
+        Ok(open.next_message(class, order))
     }
 }
 
-// The message of a station that follows all that is counted.
-fn message_after(counts: &[u16; STATIONS], own: u8, class: u8, order: &[u8; 8]) -> Message
-    requires first { 1 ≤ own }
-    requires last { own ≤ 16 }
-    requires small { slice_index counts.now (own - 1) ≤ 4096 }
-    ensures message { result ≡ record { station = own; number = slice_index counts.now (own - 1) + 1; after = counts.now; class = class; order = order.now } }
-    ensures sixteen { length counts.now ≡ 16 }
-{
-    Message {
-        station: own,
-        number: counts[own as usize - 1] + 1,
-        after: *counts,
-        class,
-        order: *order,
+impl Open<'_, '_> {
+    // The own station's next message: it follows all that is accepted.
+    fn next_message(&self, class: u8, order: &[u8; 8]) -> Message
+        ensures { result ≡ next_message (state_of_station self.now.station.now) class order.now }
+    {
+        let station = self.station;
+        Message {
+            station: station.own,
+            number: station.accepted[station.own as usize - 1] + 1,
+            after: station.accepted,
+            class,
+            order: *order,
+        }
     }
 }
 
@@ -83,8 +75,5 @@ fn message_after(counts: &[u16; STATIONS], own: u8, class: u8, order: &[u8; 8]) 
 fn is_writable(class: u8, note: &[u8]) -> bool
     ensures { result ≡ may_write class note.now }
 {
-    if class > CLASSES {
-        return false;
-    }
-    is_note(note)
+    class <= CLASSES && is_note(note)
 }

@@ -1,9 +1,8 @@
-use Rattle.std.proofs.Common.{◌≡◌, drop}
+use Rattle.std.proofs.Common.{◌≡◌, take}
 use Rattle.books.specs.Books.{held_after}
 use Rattle.books.proofs.book.post_all.Given as goal
 
--- what is left of the orders leads where all of them lead
+-- what the orders so far lead to
 abbrev pub invariant-loop-order : goal.invariant-loop-order
 invariant-loop-order g l =
-    held_after g.B.Book.step (g.B.Book.holds l.book) (drop l.order-index l.orders)
-    ≡ held_after g.B.Book.step (g.B.Book.holds l.initial.book) l.orders
+    g.B.Book.holds l.book ≡ held_after g.B.Book.step (g.B.Book.holds l.initial.book) (take l.order-index l.orders)

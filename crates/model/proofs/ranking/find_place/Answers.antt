@@ -1,30 +1,13 @@
-use Rattle.std.proofs.Common.{le_refl, arith}
-use Rattle.model.proofs.Ranked.{placed_first, placed_here, placed_last, placed_on}
+use Rattle.std.proofs.Common.{unwrap_or, length, ap, ◌∙◌, rules}
+use Rattle.std.proofs.lemmas.Iterator.{YieldsList-from_slice}
+use Rattle.std.proofs.lemmas.Iterator.Search.{position_from_yields_List}
+use Rattle.model.specs.Waves.{goes_before}
+use borrow.Author.Tests.{tests}
 use Rattle.model.proofs.ranking.find_place.Goals as goal
 
-pub loop-place-init : goal.loop-place-init
-loop-place-init g c =
-    placed_first (g.T.TieOrder.means c.args.order.now) c.args.wave c.args.message.now c.args.messages.now
-
-pub returns-then-is_before : goal.returns-then-is_before
-returns-then-is_before g c =
-    record {
-      place =
-          placed_here (g.T.TieOrder.means c.args.order.now) c.args.wave c.args.message.now c.args.messages.now
-          c.loop-place.place c.loop-place.invariant _ c.loop-place-test.true c.if-is_before.ensures.answer;
-      within = omega arith;
-    }
-
-pub loop-place-preserved : goal.loop-place-preserved
-loop-place-preserved g c =
-    placed_on (g.T.TieOrder.means c.args.order.now) c.args.wave c.args.message.now c.args.messages.now
-    c.loop-place.place c.loop-place.invariant _ c.loop-place-test.true c.if-is_before.ensures.answer
-
-pub returns : goal.returns
-returns g c =
-    record {
-      place =
-          placed_last (g.T.TieOrder.means c.args.order.now) c.args.wave c.args.message.now c.args.messages.now
-          c.loop-place.place c.loop-place.invariant c.loop-place-test.false c.loop-place.auto.place-end;
-      within = le_refl _;
-    }
+pub returns-clause-place : goal.returns-clause-place
+returns-clause-place g c =
+    c.unwrap_or.ensures
+    ∙ ap (λ found. unwrap_or found (length c.args.messages.now))
+    (position_from_yields_List (goes_before (g.T.TieOrder.means c.args.order.now) c.args.wave c.args.message.now) _ _ _
+    c.position.ensures.ran (YieldsList-from_slice c.args.messages.now cc) (λ x b q k. search (rules, tests)))

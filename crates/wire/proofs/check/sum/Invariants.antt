@@ -1,4 +1,4 @@
-use Rattle.std.proofs.Common.{◌≡◌, ◌*◌, ◌≤◌, min}
+use Rattle.std.proofs.Common.{◌≡◌, ◌*◌, ◌≤◌}
 use Rattle.wire.specs.Words.{sum_below}
 use Rattle.wire.specs.Format.{weighted}
 use Rattle.wire.proofs.check.sum.Given as goal
@@ -6,4 +6,4 @@ use Rattle.wire.proofs.check.sum.Given as goal
 -- the sum so far, and its bound: no term is above 508 × 255
 abbrev pub invariant-loop-place : goal.invariant-loop-place
 invariant-loop-place l =
-    (l.sum ≡ sum_below (min l.place 508) (weighted l.block)) × (l.sum ≤ min l.place 508 * 129540)
+    (l.sum ≡ sum_below l.place (weighted l.fn.block)) × (l.sum ≤ l.place * 129540)

@@ -11,12 +11,8 @@ ends block last long =
     ap (λ rest. take 508 block ++ (last ++ rest)) (drop-drop 4 508 block ∙ drop_all 512 block (omega arith))
     ∙ ap (λ end. take 508 block ++ end) (append-nil last)
 
-pub returns : goal.returns
-returns c =
-    record {
-      memory =
-          ends c.args.block.now c.copy_from_slice.new.self c.requires
-          ∙ ap (λ last. take 508 c.args.block.now ++ last)
-          (c.copy_from_slice.ensures.after ∙ c.to_le_bytes-sum.ensures ∙ ap in_four c.sum.ensures);
-      small = omega (arith, c.sum.ensures, c.sum.type_inv);
-    }
+pub returns-clause-memory : goal.returns-clause-memory
+returns-clause-memory c =
+    ends c.args.block.now c.copy_from_slice.new.self (omega arith)
+    ∙ ap (λ last. take 508 c.args.block.now ++ last)
+    (c.copy_from_slice.ensures.after ∙ c.to_le_bytes-sum.ensures ∙ ap in_four c.sum.ensures)

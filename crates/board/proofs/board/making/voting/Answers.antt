@@ -1,10 +1,9 @@
-use Rattle.board.proofs.Made.{voting_none, voting_more}
+use Rattle.std.proofs.Common.{◌≡◌, ◌∙◌, rules}
+use Rattle.std.specs.List.{fold}
+use Rattle.board.proofs.Made.{joins, joins-voting}
 use Rattle.board.proofs.board.making.voting.Goals as goal
 
-pub loop-place-init : goal.loop-place-init
-loop-place-init c = voting_none c.args.voters.now
-
-pub loop-place-preserved : goal.loop-place-preserved
-loop-place-preserved c =
-    voting_more c.args.voters.now c.loop-place.place c.loop-place.voting c.join-voting.result c.loop-place.invariant
-    c.join-voting.ensures
+pub returns : goal.returns
+returns c =
+    let folded : c.fold.result ≡ fold joins 0 c.args.voters.now = search rules in
+    folded ∙ joins-voting c.args.voters.now c.told-voters

@@ -1,58 +1,57 @@
-use Rattle.std.proofs.Common.{◌++◌, map, length, sym, refl, ap, ◌∙◌, subst, arith}
-use Rattle.model.specs.Arrays.{wave_messages}
-use Rattle.model.specs.Calls.{as_entries, next_wave}
-use Rattle.model.specs.Sound.{MayRelease}
-use Rattle.model.specs.States.{releasing}
-use Rattle.station.specs.Memory.{holding_entry, overwritten}
-use Rattle.station.specs.Standing.{entries_of, state_of_station}
-use Rattle.station.proofs.Appended.{entries_there, places-long, state_same, wave_room}
-use Rattle.station.proofs.Overwritten.{overwritten_long}
+use Rattle.std.proofs.Common.{◌+◌, suc, length, map, sym, refl, ap, ◌∙◌, ap₂, subst, add-one, arith}
+use Rattle.model.specs.Accepted.{tallies}
+use Rattle.model.specs.Calls.{as_entries}
+use Rattle.model.specs.Sound.{Sound}
+use Rattle.model.specs.States.{last_wave, on_roll}
+use Rattle.station.specs.Memory.{holding, overwritten}
+use Rattle.station.specs.Standing.{entries_of}
+use Rattle.station.proofs.Appended.{counts_next, roll_next, sound_next, state_next, wave_room, waves_next}
 use Rattle.station.proofs.Shown.{entries-long}
 use Rattle.station.proofs.station.Station.append.Goals as goal
 
-pub count_wave-requires : goal.count_wave-requires
-count_wave-requires c =
-    let before = c.args.self.now in
-    let after = c.write_entries.new.self in
+pub put_entries-requires : goal.put_entries-requires
+put_entries-requires c =
+    let room = wave_room c.args.self.now c.args.wave.now c.requires in
+    let same = ap length c.deref.ensures.0 in
+    omega arith
+
+pub invariant_of-self : goal.invariant_of-self
+invariant_of-self c =
+    let station = c.args.self.now in
     let wave = c.args.wave.now in
-    let sixteen = c.requires.sized.places in
-    let few = c.requires.sized.few in
-    let room = wave_room before wave c.requires.may few sixteen in
-    let written = map holding_entry (entries_of before wave) in
-    let long = places-long (next_wave (state_of_station before)) wave.count wave.messages (omega arith) in
-    let same = state_same before after c.write_entries.ensures.same written c.write_entries.ensures.roll (omega arith) in
-    let kept = ap length c.write_entries.ensures.roll ∙ overwritten_long before.roll.now before.rolled written (omega arith) in
+    let written =
+    c.put_entries.ensures.places
+    ∙ ap₂ (λ k messages. overwritten station.roll.places.now station.roll.used (map holding (as_entries k messages)))
+    (add-one station.waves ∙ ap suc station.waves_told) c.deref.ensures.0 in
+    let used = c.put_entries.ensures.used ∙ ap (λ messages. station.roll.used + length messages) c.deref.ensures.0 in
+    let roll = roll_next station wave c.requires c.put_entries.new.roll written used in
+    let posts = station.posts_fit in
     record {
-      may = subst (λ state. MayRelease state wave.sources (as_entries (next_wave state) (wave_messages wave))) (sym same) c.requires.may;
-      fits = omega (arith, c.write_entries.ensures.same.rolled);
-      there =
-          entries_there before after c.write_entries.ensures.same written c.write_entries.ensures.roll (omega arith)
-          (entries_of before wave) wave.count refl long
-          ∙ ap (λ state. state.roll ++ as_entries (next_wave state) (wave_messages wave)) (sym same);
+      posts_fit = omega arith;
+      waves_told = waves_next station wave c.requires ∙ ap last_wave (sym roll);
+      accepted_told = station.accepted_told;
+      released_told =
+          c.with_one_more-self.ensures ∙ counts_next station wave c.requires ∙ sym (ap (λ entries. tallies (on_roll entries)) roll);
+      sound =
+          subst (λ state. ∥ Sound state ∥₁) (sym (state_next station wave c.requires c.put_entries.new.roll written used))
+          (sound_next station wave c.requires);
     }
 
 pub returns : goal.returns
 returns c =
-    let before = c.args.self.now in
-    let after = c.write_entries.new.self in
+    let station = c.args.self.now in
     let wave = c.args.wave.now in
-    let sixteen = c.requires.sized.places in
-    let few = c.requires.sized.few in
-    let room = wave_room before wave c.requires.may few sixteen in
-    let written = map holding_entry (entries_of before wave) in
-    let long = places-long (next_wave (state_of_station before)) wave.count wave.messages (omega arith) in
-    let same = state_same before after c.write_entries.ensures.same written c.write_entries.ensures.roll (omega arith) in
+    let written =
+    c.put_entries.ensures.places
+    ∙ ap₂ (λ k messages. overwritten station.roll.places.now station.roll.used (map holding (as_entries k messages)))
+    (add-one station.waves ∙ ap suc station.waves_told) c.deref.ensures.0 in
+    let used = c.put_entries.ensures.used ∙ ap (λ messages. station.roll.used + length messages) c.deref.ensures.0 in
     record {
-      next =
-          c.count_wave.ensures.next
-          ∙ ap (λ state. releasing state (as_entries (next_wave state) (wave_messages wave))) same;
-      table = c.count_wave.ensures.table ∙ c.write_entries.ensures.same.table;
+      next = state_next station wave c.requires c.put_entries.new.roll written used;
+      table = refl;
       roll =
-          c.count_wave.ensures.roll ∙ c.write_entries.ensures.roll
-          ∙ ap (λ k. overwritten before.roll.now k written) (sym (entries-long before.roll.now before.rolled before.roll_fits));
-      lent =
-          record {
-            table = c.count_wave.ensures.lent.table ∙ c.write_entries.ensures.same.lent.table;
-            roll = c.count_wave.ensures.lent.roll ∙ c.write_entries.ensures.same.lent.roll;
-          };
+          written
+          ∙ ap (λ k. overwritten station.roll.places.now k (map holding (entries_of station wave)))
+          (sym (entries-long station.roll.places.now station.roll.used station.roll.fits));
+      lent = record { table = refl; roll = c.put_entries.ensures.lent };
     }

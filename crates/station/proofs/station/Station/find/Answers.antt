@@ -1,9 +1,11 @@
-use Rattle.std.proofs.Common.{◌≡◌, sym, ap, ◌∙◌, arith}
-use Rattle.model.specs.Accepted.{accepted_as}
-use Rattle.station.specs.Memory.{messages_in}
+use Rattle.std.proofs.Common.{ap, ◌∙◌, take, rules}
+use borrow.Author.Tests.{tests}
+use Rattle.std.specs.Option.{option_map}
+use Rattle.std.proofs.lemmas.Iterator.Adapters.{YieldsList-from_rev_slice}
+use Rattle.std.proofs.lemmas.Iterator.Search.{find_from_yields_List}
 use Rattle.station.specs.Standing.{state_of_station}
 use Rattle.station.proofs.Held.{none_beyond}
-use Rattle.station.proofs.Looked.{found_there, not_there, nowhere}
+use Rattle.station.proofs.Looked.{looked-up, map_twice, mapped, named}
 use Rattle.station.proofs.station.Station.find.Goals as goal
 
 pub returns-then-is_beyond : goal.returns-then-is_beyond
@@ -11,19 +13,13 @@ returns-then-is_beyond c =
     none_beyond (state_of_station c.args.self.now) c.args.station c.args.number c.args.self.now.sound
     c.if-is_beyond.ensures
 
-pub returns-then-is_of : goal.returns-then-is_of
-returns-then-is_of c =
-    found_there c.args.self.now.table.now c.args.self.now.used c.loop-place.place c.args.station c.args.number _
-    c.loop-place-test.true (omega arith) c.loop-place.invariant (sym c.if-is_of.ensures)
-
-pub loop-place-preserved : goal.loop-place-preserved
-loop-place-preserved c =
-    not_there c.args.self.now.table.now c.args.self.now.used c.loop-place.place c.args.station c.args.number _
-    c.loop-place-test.true (omega arith) c.loop-place.invariant (sym c.if-is_of.ensures)
-
 pub returns : goal.returns
 returns c =
-    let none : c.loop-place.place ≡ 0 = omega arith in
-    sym (c.loop-place.invariant
-    ∙ ap (λ k. accepted_as (messages_in k c.args.self.now.table.now) c.args.station c.args.number) none
-    ∙ nowhere c.args.self.now.table.now c.args.station c.args.number)
+    let found =
+    find_from_yields_List (named c.args.station c.args.number) _ _ c.find.result c.find.ensures.ran
+    (YieldsList-from_rev_slice (take c.args.self.now.table.used c.args.self.now.table.places.now) (search rules))
+    (λ x b q k. search (rules, tests)) in
+    mapped c.find.result c.map.result (λ x. x.now.content) c.map.ensures.cases (λ x y q. search rules)
+    ∙ map_twice c.find.result (λ x. x.now) (λ place. place.content)
+    ∙ ap (option_map (λ place. place.content)) found
+    ∙ looked-up (take c.args.self.now.table.used c.args.self.now.table.places.now) c.args.station c.args.number

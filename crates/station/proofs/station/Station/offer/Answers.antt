@@ -1,28 +1,24 @@
-use Rattle.std.proofs.Common.{Err, sym, ap, ◌∙◌}
+use Rattle.std.proofs.Common.{Ok, Err, sym, ap, ◌∙◌}
 use Rattle.std.proofs.lemmas.Result.{err_from_is_err_and}
-use Rattle.model.specs.Calls.{take_carried}
-use Rattle.model.proofs.Decided.{carried-is}
+use Rattle.model.specs.Calls.{outcome}
+use Rattle.model.specs.States.{accepting}
 use Rattle.station.specs.Standing.{state_of_station}
-use Rattle.station.proofs.Offered.{refused-offer, taken-offer}
+use Rattle.station.proofs.Offered.{answers-told}
+use Rattle.station.proofs.Taken.{may_take}
 use Rattle.station.proofs.station.Station.offer.Goals as goal
 
-pub returns-in_err-message : goal.returns-in_err-message
-returns-in_err-message c =
+pub returns-in_err-message-clause-answers : goal.returns-in_err-message-clause-answers
+returns-in_err-message-clause-answers c =
     let refused = err_from_is_err_and c.from_residual.result c.from_residual.ensures.1 in
-    refused-offer c.args.self.now c.args.block.now c.from_residual.result c.in_err-message.field-0.0
-    (refused.1 ∙ ap Err refused.2)
-    (ap (take_carried (state_of_station c.args.self.now)) (sym c.in_err-message.ensures))
+    let state = state_of_station c.args.self.now in
+    answers-told c.args.self.now c.args.block.now c.from_residual.result (refused.1 ∙ ap Err refused.2
+    ∙ ap (λ decided. (outcome state decided (λ _. tt) (accepting state)).answer) c.in_err-message.ensures)
 
-pub take-requires : goal.take-requires
-take-requires c =
-    let carried =
-    carried-is (state_of_station c.args.self.now) c.args.block.now c.in_ok-message.message
-    (sym c.in_ok-message.ensures) in
-    record { «open» = carried.live; group = carried.group }
+pub accept-requires : goal.accept-requires
+accept-requires c = may_take (state_of_station c.args.self.now) c.args.block.now c.in_ok-message.message (sym c.in_ok-message.ensures)
 
-pub returns : goal.returns
-returns c =
-    taken-offer c.args.self.now c.take.new.self c.args.block.now c.in_ok-message.message c.take.result
-    (ap (take_carried (state_of_station c.args.self.now)) (sym c.in_ok-message.ensures))
-    c.take.ensures.answer c.take.ensures.next c.take.ensures.table c.take.ensures.roll
-    c.take.ensures.refused c.take.ensures.lent
+pub returns-clause-answers : goal.returns-clause-answers
+returns-clause-answers c =
+    let state = state_of_station c.args.self.now in
+    answers-told c.args.self.now c.args.block.now (Ok tt)
+    (ap (λ decided. (outcome state decided (λ _. tt) (accepting state)).answer) c.in_ok-message.ensures)

@@ -1,8 +1,0 @@
-use Rattle.std.proofs.Common.{◌≡◌, ◌+◌, false, ◌&&◌, ltb}
-use Rattle.board.specs.Boards.{absent, candidate, lead}
-use Rattle.board.specs.Sets.{some}
-use Rattle.rules.proofs.threshold.sentences.may_be_led.Given as goal
-
--- so far none may lead
-abbrev pub invariant-loop-other : goal.invariant-loop-other
-invariant-loop-other l = some (λ other. candidate l.board other && ltb l.phi (lead l.board other l.place + absent l.board)) l.other ≡ false

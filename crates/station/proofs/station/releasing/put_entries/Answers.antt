@@ -1,0 +1,26 @@
+use Rattle.std.proofs.Common.{length, ap, ◌∙◌, arith}
+use Rattle.station.proofs.Appended.{one_written, places-long, places_of}
+use Rattle.station.proofs.Overwritten.{overwritten_long}
+use Rattle.station.proofs.station.releasing.put_entries.Goals as goal
+
+pub push-requires : goal.push-requires
+push-requires c =
+    let below = c.loop-message-test.true in
+    let put = places-long c.args.wave c.loop-message.message-index c.args.messages.now (omega arith) in
+    let long =
+    ap length c.loop-message.invariant.places
+    ∙ overwritten_long c.args.roll.now.places.now c.args.roll.now.used
+    (places_of c.args.wave c.loop-message.message-index c.args.messages.now) (omega arith) in
+    omega arith
+
+pub loop-message-preserved : goal.loop-message-preserved
+loop-message-preserved c =
+    record {
+      places =
+          c.push.ensures.places
+          ∙ one_written c.args.roll.now.places.now c.loop-message.roll.places.now c.args.roll.now.used c.loop-message.roll.used
+          c.args.wave c.loop-message.message-index c.args.messages.now _ c.loop-message.invariant.used c.loop-message-test.true
+          (omega arith) c.loop-message.invariant.places;
+      used = omega arith;
+      lent = c.push.ensures.lent ∙ c.loop-message.invariant.lent;
+    }
