@@ -1,6 +1,6 @@
 -- Boards and their sets: the steps by which the code makes one, and that a board is the board of its sets.
 -- Assumes nothing.
-use Rattle.std.proofs.Common.{◌≡◌, ℕ, zero, suc, length, [], ◌∷◌, ap₂, ◌+◌, ◌*◌, ◌/◌, ◌%◌, ◌^◌, ◌<◌, ◌≤◌, Bool, true, false, not, ◌&&◌, ◌||◌, eqb, List, Ok, Result, sym, refl, ap, ◌∙◌, subst, ⊎_elim, add-one, arith, pow_pos, pow_mono}
+use Rattle.std.proofs.Common.{◌≡◌, ℕ, zero, suc, length, [], ◌∷◌, ap₂, ◌+◌, ◌*◌, ◌/◌, ◌%◌, ◌^◌, ◌<◌, ◌≤◌, Bool, true, false, not, ◌&&◌, ◌||◌, eqb, List, Ok, Result, sym, refl, ap, ◌∙◌, subst, ⊎_elim, arith, pow_pos, pow_mono}
 use mathlib.Core.Bool.{Bool-set}
 use native.Mathlib.Nat.{div-eq_of_lt}
 use Rattle.std.proofs.lemmas.Nat.{shr_split, mod_below}
@@ -15,7 +15,7 @@ use Rattle.board.specs.Sets.{has, all, some, count, mask, implies, within, every
 use Rattle.board.specs.Ballots.{is_group, is_board, votes_for, votes, voting_set}
 use Rattle.board.specs.Boards.{ComparingDecides, board_decided, board_of, is_same_board}
 use Rattle.board.specs.declared.board.Board.{Board}
-use Rattle.board.proofs.Places.{all-at, all_more, all_same, some-none, mask-same, count_same}
+use Rattle.board.proofs.Places.{all-at, all_same, some-none, mask-same, count_same}
 use Rattle.board.proofs.Digits.{has-zero, has-mask, mask_below, mask_is}
 
 -- only stations 1 to n
@@ -43,10 +43,6 @@ up_to-is n set =
 pub all_fails : (test : ℕ → Bool) (n place : ℕ) → place < n → test place ≡ false → false ≡ all test n
 all_fails test n place h e =
     ⊎_elim (λ t. absurd (true≢false (sym (all-at test n place t h) ∙ e))) sym (cases_Bool (all test n))
-
-pub all_goes_on : (test : ℕ → Bool) (place : ℕ) → all test place ≡ true → test place ≡ true → all test (place + 1) ≡ true
-all_goes_on test place below here =
-    ap (all test) (add-one place) ∙ all_more test place ∙ and_from (test place) (all test place) here below
 
 -- who votes for some candidate, told set by set
 

@@ -1,5 +1,5 @@
 -- What sets must hold to be a board. Assumes nothing.
-use Rattle.std.specs.Prelude.{ℕ, Bool, not, ◌&&◌, List, length, ◌==◌, nat_le, slice_index}
+use Rattle.std.specs.Prelude.{ℕ, Bool, not, ◌&&◌, List, length, ◌==◌, slice_index}
 use Rattle.board.specs.Sets.{has, implies, every, any, set_of, within, up_to}
 -- a group has 1 to 16 stations, as the blocks say
 pub use Rattle.wire.specs.Messages.{is_group}

@@ -8,6 +8,7 @@ mod calls;
 mod making;
 
 pub use making::voting;
+pub use wire::is_group;
 
 // What a rule is shown. Station j is bit j − 1 of a set, and its place is j − 1.
 #[derive(Clone, Copy, Debug, PartialEq, Eq)]

@@ -5,6 +5,5 @@ pub mod board;
 pub mod rule;
 pub mod sets;
 
-pub use board::{Board, voting};
+pub use board::{Board, is_group, voting};
 pub use rule::Rule;
-pub use wire::is_group;

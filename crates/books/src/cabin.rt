@@ -1,5 +1,5 @@
 // The cabin book: the slots of fourteen days, and the cabins of a lift.
-ghost use Rattle.std.specs.Prelude.{◌≡◌, ℕ, true, List, Some, Ok, slice_index};
+ghost use Rattle.std.specs.Prelude.{◌≡◌, ℕ, true, List, Some, Ok, Err, IfOk, IfErr, slice_index};
 ghost use Rattle.wire.specs.Words.{two_bytes};
 ghost use Rattle.books.specs.declared.cabin.CabinBook.{CabinBook};
 ghost use Rattle.books.specs.declared.cabin.CabinReply.TheVariants.{Done};
@@ -38,7 +38,8 @@ pub enum Slot {
     Ridden,
 }
 
-// A reply of the cabin book: done, or why nothing was.
+// A reply of the cabin book: done, or why nothing was. Each has a number of its own, done too, so it is
+// one enum and no Result.
 #[derive(Clone, Copy, PartialEq, Eq, Debug)]
 pub enum CabinReply {
     Done = 0,
@@ -76,6 +77,33 @@ impl TryFrom<u8> for CabinCode {
             4 => Ok(CabinCode::Ride),
             _ => Err(CabinReply::Unreadable),
         }
+    }
+}
+
+// An order by its code: bytes whose code asks for something.
+#[derive(Clone, Copy)]
+struct CabinOrder {
+    code: CabinCode,
+    bytes: [u8; ORDER],
+    ghost coded: { cabin_code (slice_index bytes 0) ≡ Ok code },
+}
+
+impl CabinOrder {
+    // The order of these bytes: refuses a code that asks for nothing.
+    fn new(bytes: [u8; ORDER]) -> Result<CabinOrder, CabinReply>
+        ensures code { IfErr result (λ reply. Err reply ≡ cabin_code (slice_index bytes 0)) }
+        ensures same { IfOk result (λ order. order.bytes ≡ bytes) }
+    {
+        let code = CabinCode::try_from(bytes[0])?;
+        Ok(CabinOrder { code, bytes })
+    }
+
+    // The party, in two bytes, the lowest first.
+    fn party(self) -> u16
+        ensures { result ≡ two_bytes self.bytes 4 }
+    {
+        let [_, _, _, _, low, high, _, _] = self.bytes;
+        u16::from_le_bytes([low, high])
     }
 }
 
@@ -144,8 +172,8 @@ impl Book for CabinBook {
         ensures next { self.new ≡ (cabin_step self.old order.now).1 }
         ensures only_done_alters { OnlyAlters (λ reply. reply ≡ Done) cabin_step }
     {
-        match CabinCode::try_from(order[0]) {
-            Ok(code) if self.is_readable(code, order) => self.carry_out(code, order),
+        match CabinOrder::new(*order) {
+            Ok(order) if self.is_readable(order) => self.carry_out(order),
             _ => CabinReply::Unreadable,
         }
     }
@@ -179,23 +207,22 @@ impl CabinBook {
         self.cabins.get(place).map(|cabin| cabin.home)
     }
 
-    // Whether an order of this code can be read.
-    fn is_readable(&self, code: CabinCode, order: &[u8; ORDER]) -> bool
-        requires { cabin_code (slice_index order.now 0) ≡ Ok code }
-        ensures { result ≡ cabin_readable self.now order.now }
+    // Whether an order can be read.
+    fn is_readable(&self, order: CabinOrder) -> bool
+        ensures { result ≡ cabin_readable self.now order.bytes }
     {
-        let [_, day, departure, _, _, _, _, spare] = *order;
-        is_slot(day, departure) && spare == 0 && self.is_named_well(code, order)
+        let [_, day, departure, _, _, _, _, spare] = order.bytes;
+        is_slot(day, departure) && spare == 0 && self.is_named_well(order)
     }
 
-    // Whether the fields that the code names are in range, and the others 0.
-    fn is_named_well(&self, code: CabinCode, order: &[u8; ORDER]) -> bool
-        requires { cabin_code (slice_index order.now 0) ≡ Ok code }
-        ensures { result ≡ named_well self.now order.now }
+    // Whether the fields that the code names are in range, and the others 0. The kinds of order are closed,
+    // so they are the cases of one match, here and below.
+    fn is_named_well(&self, order: CabinOrder) -> bool
+        ensures { result ≡ named_well self.now order.bytes }
     {
-        let [_, _, _, cabin, _, _, seats, _] = *order;
-        let party = party_in(order);
-        match code {
+        let [_, _, _, cabin, _, _, seats, _] = order.bytes;
+        let party = order.party();
+        match order.code {
             CabinCode::Book => {
                 cabin == 0 && party >= 1 && seats >= 1 && seats <= most_of(&self.cabins)
             }
@@ -206,23 +233,23 @@ impl CabinBook {
         }
     }
 
-    // Carries an order out that can be read: what becomes of a slot depends on its state and the code.
-    fn carry_out(&mut self, code: CabinCode, order: &[u8; ORDER]) -> CabinReply
-        requires readable { cabin_readable self.old order.now ≡ true }
-        requires code { cabin_code (slice_index order.now 0) ≡ Ok code }
-        ensures reply { result ≡ (on_its_slot self.old order.now).0 }
-        ensures next { self.new ≡ (on_its_slot self.old order.now).1 }
+    // Carries an order out that can be read: what becomes of a slot depends on its state and the code, which
+    // are matched together, in place, a form that is used for its own sake.
+    fn carry_out(&mut self, order: CabinOrder) -> CabinReply
+        requires { cabin_readable self.old order.bytes ≡ true }
+        ensures reply { result ≡ (on_its_slot self.old order.bytes).0 }
+        ensures next { self.new ≡ (on_its_slot self.old order.bytes).1 }
     {
-        let [_, day, departure, cabin, _, _, seats, _] = *order;
+        let [_, day, departure, cabin, _, _, seats, _] = order.bytes;
         let slot = &mut self.slots[usize::from(day) - 1][usize::from(departure) - 1];
-        match (*slot, code) {
+        match (*slot, order.code) {
             (Slot::Free, CabinCode::Book) => {
-                let party = party_in(order);
+                let party = order.party();
                 *slot = Slot::Booked { party, seats };
                 CabinReply::Done
             }
             (Slot::Booked { party, .. }, CabinCode::Cancel) => {
-                if party != party_in(order) {
+                if party != order.party() {
                     return CabinReply::OtherParty;
                 }
                 *slot = Slot::Free;
@@ -262,13 +289,6 @@ fn is_slot(day: u8, departure: u8) -> bool
     ensures { result ≡ is_slot day departure }
 {
     (1..=DAYS).contains(&usize::from(day)) && (1..=DEPARTURES).contains(&usize::from(departure))
-}
-
-// The party, in two bytes, the lowest first.
-fn party_in(order: &[u8; ORDER]) -> u16
-    ensures { result ≡ two_bytes order.now 4 }
-{
-    u16::from_le_bytes([order[4], order[5]])
 }
 
 // The most seats that any cabin has.

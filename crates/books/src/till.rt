@@ -16,7 +16,8 @@ enum TillCode {
     Read = 3,
 }
 
-// What was done, or why nothing was.
+// The word of a reply: done, or why nothing was. Each has a number of its own, done too, so it is one enum
+// and no Result.
 #[derive(Clone, Copy, PartialEq, Eq, Debug)]
 pub enum TillWord {
     Done = 0,
@@ -67,7 +68,8 @@ impl TillBook {
         self.balance
     }
 
-    // The balance that an order leaves when it is done, or the word of why it is not.
+    // The balance that an order leaves when it is done, or the word of why it is not. The kinds of order are
+    // closed, so they are the cases of one match.
     fn left_by(&self, order: &[u8; ORDER]) -> Result<u32, TillWord>
         ensures { leaving self.now.balance result ≡ till_step self.now.balance order.now }
     {

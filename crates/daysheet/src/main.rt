@@ -9,7 +9,7 @@ use wire::BLOCK;
 fn main(rt: HostRuntime) -> io::Result<()> {
     let mut input = rt.stdin();
     let mut block = Vec::with_capacity(rt.alloc(), BLOCK)?;
-    // Turns are counted, since a loop with no end would need leave to run on.
+    // Turns are counted, since a loop with no end needs the bound `Wait`.
     for turn in 0..u64::MAX {
         block.clear();
         // The last block may be short, and an empty one is the end.

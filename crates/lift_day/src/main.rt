@@ -41,7 +41,7 @@ fn tell_fault(rt: &impl Print, what: &str, fault: Fault) -> io::Result<()> {
     println!(rt; "{what}: refused {number}, {fault}")
 }
 
-// What reading answers to a block.
+// What reading answers to a block. Both outcomes are told, here and below, so both are arms of a match.
 fn tell_reading(rt: &impl Print, what: &str, block: &[u8]) -> io::Result<()> {
     match wire::read(block) {
         Ok(_) => println!(rt; "{what}: reads well"),

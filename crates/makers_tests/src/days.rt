@@ -115,6 +115,7 @@ fn orders_add_up(rt: HostRuntime) {
 fn codes_and_numbers(rt: HostRuntime) {
     assert_eq!(rt; <CabinBook as Book>::highest_code(), 4);
     assert_eq!(rt; <TillBook as Book>::highest_code(), 3);
+    assert_eq!(rt; CabinReply::TooSmall as u8, 5);
     assert_eq!(rt; u8::from(CabinReply::TooSmall), 5);
     assert_eq!(rt; TillWord::NotEnough as u8, 3);
 }

@@ -163,42 +163,10 @@ module _ (state : State) (message : Message) where
       → Decides crossing (IsCrossed state message) → Decides full (HasNoRoom state)
       → TakeAnswers state message
       (told state (cond lacks (Err Early) (cond crossing (Err Crossed) (cond full (Err Full) (Ok message)))))
-  fresh_answers new true crossing full l c f =
-      record {
-        repeat = fails (omega arith) (λ r. found_none found r.0 r.1 new);
-        clash = fails (omega arith) (λ r. found_none found r.0 r.1 new);
-        early = comes refl (new, holds l);
-        crossed = fails (omega arith) (λ p. p.1 (holds l));
-        full = fails (omega arith) (λ p. p.1 (holds l));
-        done = fails (omega arith) (λ p. p.1 (holds l));
-      }
-  fresh_answers new false true full l c f =
-      record {
-        repeat = fails (omega arith) (λ r. found_none found r.0 r.1 new);
-        clash = fails (omega arith) (λ r. found_none found r.0 r.1 new);
-        early = fails (omega arith) (λ p. holds_not l p.1);
-        crossed = comes refl (new, holds_not l, holds c);
-        full = fails (omega arith) (λ p. p.2 (holds c));
-        done = fails (omega arith) (λ p. p.2 (holds c));
-      }
-  fresh_answers new false false true l c f =
-      record {
-        repeat = fails (omega arith) (λ r. found_none found r.0 r.1 new);
-        clash = fails (omega arith) (λ r. found_none found r.0 r.1 new);
-        early = fails (omega arith) (λ p. holds_not l p.1);
-        crossed = fails (omega arith) (λ p. holds_not c p.2);
-        full = comes refl (new, holds_not l, holds_not c, holds f);
-        done = fails (omega arith) (λ p. p.3 (holds f));
-      }
-  fresh_answers new false false false l c f =
-      record {
-        repeat = fails (omega arith) (λ r. found_none found r.0 r.1 new);
-        clash = fails (omega arith) (λ r. found_none found r.0 r.1 new);
-        early = fails (omega arith) (λ p. holds_not l p.1);
-        crossed = fails (omega arith) (λ p. holds_not c p.2);
-        full = fails (omega arith) (λ p. holds_not f p.3);
-        done = comes refl (new, holds_not l, holds_not c, holds_not f);
-      }
+  fresh_answers new true crossing full l c f = grind (arith, common_steps, fails, found_none, comes, holds)
+  fresh_answers new false true full l c f = grind (arith, common_steps, fails, found_none, holds_not, comes, holds)
+  fresh_answers new false false true l c f = grind (arith, common_steps, fails, found_none, holds_not, comes, holds)
+  fresh_answers new false false false l c f = grind (arith, common_steps, fails, found_none, holds_not, comes)
 
   room_decides : Decides (is_full state) (HasNoRoom state)
   room_decides = grind (arith, common_steps)

@@ -1,16 +1,12 @@
--- Two lists of counts, place by place; arrays made place by place. Assumes nothing.
-use Rattle.std.proofs.Common.{◌≡◌, ℕ, zero, suc, ◌+◌, ◌<◌, Bool, true, false, not, ◌&&◌, ◌||◌, leb, ltb, cond, min, List, map, length, get_or, refl, ap, ◌∙◌, ap₂, sym, arith}
+-- Two lists of counts, place by place. Assumes nothing.
+use Rattle.std.proofs.Common.{◌≡◌, ℕ, zero, suc, ◌+◌, ◌<◌, Bool, true, false, not, ◌&&◌, ◌||◌, leb, ltb, cond, min, List, length, get_or, refl, ap, ◌∙◌, ap₂, sym, arith}
 use Rattle.std.proofs.lemmas.Grind.{common_steps}
-use Rattle.std.specs.Array.{IsFromFnResult}
-use Rattle.std.specs.Fn.{Mut}
-use Rattle.std.specs.List.{list_any, range_with_len, zip}
+use Rattle.std.specs.List.{list_any, zip}
 use Rattle.std.proofs.lemmas.Bool.Decides.{nat_tests, same_from_decides}
 use Rattle.std.proofs.lemmas.List.{get_or_default}
 use Rattle.std.proofs.lemmas.List.Folds.{Any-from_list_any, list_any_at}
-use Rattle.std.proofs.lemmas.List.FromFn.{fill_by_all}
 use Rattle.std.proofs.lemmas.Slice.Zip.{get_or-zip, length-zip}
 use Rattle.board.specs.Sets.{all, some}
-use Rattle.board.proofs.FromCalls.{AnswersByPlace, at-calls}
 use Rattle.board.proofs.Places.{some_decides}
 use Rattle.wire.specs.declared.message.Message.{Message}
 use Rattle.model.specs.Arrays.{counts_by_station, one_more_if}
@@ -69,14 +65,6 @@ ready-told released message =
   where
     apart : (a b : ℕ) → not (ltb b a) ≡ leb a b
     apart a b = grind (arith, nat_tests)
-
--- an array made by calls of a closure that answers by the place alone
-pub from_calls :
-    {F B : Type 0} (g : Mut F (ℕ × Unit {0}) B) (f : F) (ys : List B) (other : B) (answer : ℕ → B) → AnswersByPlace g f answer
-    → IsFromFnResult g f ys 16 → ys ≡ map answer (range_with_len 0 16)
-from_calls g f ys other answer by_place made =
-    fill_by_all answer ys 16 other made.long
-    (λ place below. at-calls g f ys answer by_place 0 16 made.each place other (omega arith) (omega arith))
 
 -- one more if asked for
 pub one_more-told :

@@ -129,10 +129,7 @@ module _
       (other : ℕ) (followed : Message) (third : ℕ) → accepted_as ms other (count_of m other) ≡ Some followed
       → count_of followed third ≤ count_of m third
   no_larger other followed zero e = omega arith
-  no_larger zero followed (suc third) e = absurd (nobody ((kept.gapless zero (count_of m zero)).0 (ap is_some e)).0)
-    where
-      nobody : 1 ≤ 0 → ⊥
-      nobody h = omega arith
+  no_larger zero followed (suc third) e = grind (arith, common_steps)
   no_larger (suc place) followed (suc third) e =
       ⊎_elim (λ below. ⊎_elim (inside below) (λ past. none past) (cases_lt third 16)) outside (cases_lt place 16)
     where

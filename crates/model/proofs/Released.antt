@@ -24,7 +24,7 @@ use Rattle.model.specs.Heads as heads
 use Rattle.model.specs.Heads.{board_at, head, present_set, voter_sets}
 use Rattle.model.specs.Sound.{Begun, Gapless, Sound}
 use Rattle.model.specs.States.{State, known, last_wave, on_roll, released, releasing}
-use Rattle.model.specs.Waves.{Ascending, BeforeAll, IsWave, On, as_head, wave_of}
+use Rattle.model.specs.Waves.{Ascending, BeforeAll, IsWave, On, wave_of}
 use Rattle.model.proofs.Followed.{some-message}
 use Rattle.model.proofs.HeadLaws.{listed-message, released-fewer}
 use Rattle.model.proofs.MessageFacts.{group_small, station_first, station_last}
@@ -65,9 +65,7 @@ pub tally-some :
     (messages : List Message) (message : Message) → On message messages → 1 ≤ tally messages message.station
 unfolding tally
 tally-some [] message on = elim on [ ]
-tally-some (first ∷ rest) message (inl e) =
-    let here = ap one (eq-eqb first.station message.station (sym (ap (λ (m : Message). m.station) e))) in
-    omega (arith, here)
+tally-some (first ∷ rest) message (inl e) = grind (arith, common_steps, one, eq-eqb)
 tally-some (first ∷ rest) message (inr on) = omega (arith, tally-some rest message on)
 
 pub some-tally :
@@ -111,12 +109,7 @@ pub on_found :
     → is_some (accepted_as messages message.station message.number) ≡ true
 unfolding accepted_as
 on_found [] message on = elim on [ ]
-on_found (first ∷ rest) message (inl e) =
-    either-found (accepted_as rest message.station message.number)
-    (is_named first message.station message.number) first
-    (inr (and_from (eqb first.station message.station) (eqb first.number message.number)
-    (eq-eqb first.station message.station (ap (λ (m : Message). m.station) (sym e)))
-    (eq-eqb first.number message.number (ap (λ (m : Message). m.number) (sym e)))))
+on_found (first ∷ rest) message (inl e) = grind (arith, common_steps, either-found, and_from, eq-eqb)
 on_found (first ∷ rest) message (inr on) =
     either-found (accepted_as rest message.station message.number)
     (is_named first message.station message.number) first (inl (on_found rest message on))
@@ -286,9 +279,7 @@ before-apart :
     → BeforeAll order wave message messages
     → (other : Message) → On other messages → message.station ≡ other.station → ⊥
 before-apart order wave message [] lawful before other on same = on
-before-apart order wave message (first ∷ rest) lawful before other (inl e) same =
-    true≢false (sym before.0
-    ∙ lawful.not_itself wave (as_head message) (as_head first) (same ∙ ap (λ (m : Message). m.station) e))
+before-apart order wave message (first ∷ rest) lawful before other (inl e) same = grind (arith, common_steps, true≢false)
 before-apart order wave message (first ∷ rest) lawful before other (inr on) same =
     before-apart order wave message rest lawful before.1 other on same
 

@@ -44,10 +44,6 @@ raised_counts counts sources = map (λ place. one_more_if (has sources place) (s
 abbrev pub place_for : TieMeaning → ℕ → Message → List Message → ℕ
 place_for order wave message messages = unwrap_or (position (goes_before order wave message) messages) (length messages)
 
--- the head at a place, if its station is a source
-abbrev pub source_head : List (Option Message) → ℕ → ℕ → Option Message
-source_head heads sources place = cond (has sources place) (slice_index_or heads place None) None
-
 -- the messages of a wave
 abbrev pub wave_messages : Wave → List Message
 wave_messages wave = wave.messages.items

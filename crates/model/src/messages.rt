@@ -1,4 +1,4 @@
-// Questions on two messages.
+// Questions on two messages. They compare a part of a message each, so that no derived comparison answers them.
 ghost use Rattle.std.specs.Prelude.{◌≡◌};
 ghost use Rattle.model.specs.Accepted.{is_named};
 ghost use Rattle.model.specs.Following.{alike, counts_exceed, exceeds, follows};

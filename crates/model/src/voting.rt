@@ -34,6 +34,7 @@ struct Vote<'a> {
     released: &'a [u16; STATIONS],
 }
 
+// A place is a number below 16: from_fn gives numbers, so a type of places would be made anew at each call.
 impl Vote<'_> {
     // The stations that vote for the candidate at a place.
     fn voters(&self, place: usize) -> u16

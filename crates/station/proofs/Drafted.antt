@@ -1,27 +1,24 @@
 -- What a write answers and leaves, from what it drafted. Assumes nothing.
-use Rattle.std.proofs.Common.{◌≡◌, ℕ, suc, ◌+◌, ◌-◌, ◌<◌, ◌≤◌, Bool, true, false, cond, not, eqb, leb, List, length, get_or, set, is_some, Ok, Err, Result, sym, refl, ap, ◌∙◌, subst, add-one, arith}
+use Rattle.std.proofs.Common.{◌≡◌, ℕ, suc, ◌+◌, ◌-◌, ◌<◌, ◌≤◌, true, false, eqb, leb, List, length, get_or, is_some, Ok, Err, Result, sym, ap, ◌∙◌, subst, add-one, arith}
 use mathlib.Core.Bool.{Bool-set}
 use mathlib.Core.Logic.{∥∥₁_elim}
 use Rattle.std.proofs.lemmas.Bool.{and_from, and_parts, cond-true, eq-eqb, leb-false, leb-true}
 use Rattle.model.specs.Accepted.{crossed, early, tally}
-use Rattle.model.specs.Calls.{block_left, next_message, open_answer, outcome, unless_shut, write_decided, write_of, written_block}
+use Rattle.model.specs.Calls.{next_message, write_decided, write_of}
 use Rattle.model.specs.Meanings.{WriteAnswers}
 use Rattle.model.specs.Sound.{MayAccept}
-use Rattle.model.specs.States.{State, accepting, is_shut, known, may_open}
-use Rattle.model.proofs.Decided.{never-taken}
+use Rattle.model.specs.States.{State, is_shut, known}
 use Rattle.model.proofs.Pushed.{tally-few}
 use Rattle.model.proofs.WriteAnswers.{write-answers}
 use Rattle.model.proofs.Written.{next_fits, opened-live, write-parts}
-use Rattle.wire.specs.Format.{block_of, filled, filling, fitting, noted}
+use Rattle.wire.specs.Format.{filling, fitting, noted}
 use Rattle.wire.specs.Messages.{well_formed}
 use Rattle.wire.specs.declared.fault.Fault.{Fault}
-use Rattle.wire.specs.declared.fault.Fault.TheVariants.{Layout, Length, Setting}
+use Rattle.wire.specs.declared.fault.Fault.TheVariants.{Layout, Length}
 use Rattle.wire.specs.declared.message.Message.{Message}
-use Rattle.station.specs.Memory.{holding}
-use Rattle.station.specs.Standing.{Does, SameMemory, UnchangedIfRefused, state_of_station, table_after}
+use Rattle.station.specs.Standing.{state_of_station}
 use Rattle.station.specs.declared.station.Station.{Station}
 use Rattle.station.proofs.Held.{count-told, none_from, used-told}
-use Rattle.station.proofs.Offered.{does}
 use Rattle.station.proofs.Taken.{open_small}
 
 -- The draft.
@@ -118,12 +115,6 @@ module _ (station : Station) (class : ℕ) (order note block : List ℕ) (messag
   pub filling_done : filling station.n message note block ≡ Ok tt
   filling_done =
       cond-true (eqb (length block) 512) _ (Err Length) long ∙ cond-true (fitting station.n message note) (Ok tt) (Err Layout) fits
-
-  pub filled_is : filled station.n message note block ≡ written_block (state_of_station station) class order note block
-  filled_is =
-      cond-true (eqb (length block) 512) _ block long
-      ∙ cond-true (fitting station.n message note) (block_of station.n message note) block fits
-      ∙ sym (ap (block_left (state_of_station station) note block) decided)
 
 -- the answers of write come exactly when they should
 pub write_answered :

@@ -1,17 +1,17 @@
 -- What a station holds, as the facts beside its fields say it. Assumes nothing.
-use Rattle.std.proofs.Common.{◌≡◌, ℕ, suc, ◌-◌, ◌<◌, ◌≤◌, Bool, true, false, ◌&&◌, ltb, leb, List, [], ◌∷◌, length, get_or, take, is_some, Some, None, Option, sym, refl, ap, ◌∙◌, ap₂, ⊎_elim, arith}
+use Rattle.std.proofs.Common.{◌≡◌, ℕ, suc, ◌-◌, ◌<◌, ◌≤◌, Bool, true, false, ◌&&◌, ltb, List, [], ◌∷◌, length, get_or, take, is_some, Some, None, Option, sym, refl, ap, ◌∙◌, ap₂, arith}
 use mathlib.Core.Bool.{Bool-set}
 use mathlib.Core.Logic.{∥∥₁_elim}
 use Rattle.std.proofs.lemmas.List.FromFn.{get_or-map-range_with_len}
 use Rattle.std.proofs.lemmas.List.{length-map, length-take-le}
-use Rattle.std.proofs.lemmas.Bool.{and_parts, cases_Bool, ltb-true, true≢false}
+use Rattle.std.proofs.lemmas.Bool.{true≢false}
 use Rattle.board.specs.Sets.{any}
 use Rattle.board.proofs.Places.{some_same}
 use Rattle.model.specs.Accepted.{early, tallies, tally}
 use Rattle.model.specs.Calls.{opened}
 use Rattle.model.specs.declared.entry.Entry.{Entry}
 use Rattle.model.specs.Following.{count_of, counts_exceed}
-use Rattle.model.specs.Sound.{Gapless, Sound}
+use Rattle.model.specs.Sound.{Sound}
 use Rattle.model.specs.States.{State, known}
 use Rattle.model.proofs.Timely.{early-told}
 use Rattle.wire.specs.declared.message.Message.{Message}
@@ -67,31 +67,10 @@ used-told station =
     length-map (take station.table.used station.table.places.now) (λ place. place.content)
     ∙ length-take-le station.table.used station.table.places.now station.table.fits
 
--- Above the tally nothing is accepted.
-
+-- where no message is found, there is none
 pub none_from : (found : Option Message) → is_some found ≡ false → found ≡ None
 none_from None e = refl
 none_from (Some message) e = absurd (true≢false e)
-
-pub none_beyond :
-    (state : State) (station number : ℕ) → ∥ Sound state ∥₁
-    → true ≡ (leb 1 station && (leb station 16 && ltb (tally state.accepted station) number)) → None ≡ known state station number
-none_beyond state station number sound beyond =
-    sym (none_from (known state station number)
-    (∥∥₁_elim sound (Bool-set (is_some (known state station number)) false) (λ s. unknown s.kept.gapless)))
-  where
-    above : tally state.accepted station < number
-    above =
-        ltb-true (tally state.accepted station) number
-        (and_parts (leb station 16) (ltb (tally state.accepted station) number)
-        (and_parts (leb 1 station) (leb station 16 && ltb (tally state.accepted station) number) (sym beyond)).1).1
-
-    unknown : Gapless state.accepted → is_some (known state station number) ≡ false
-    unknown gapless =
-        ⊎_elim (λ there. absurd (never ((gapless station number).0 there).1)) (λ e. e) (cases_Bool (is_some (known state station number)))
-      where
-        never : number ≤ tally state.accepted station → ⊥
-        never h = let more = above in omega arith
 
 -- the count of a station of 1 to 16
 pub count_of_station :

@@ -38,7 +38,7 @@ looked-up (place ∷ places) station number =
     ∙ first_of (find (named station number) (reverse places)) (find (named station number) (place ∷ []))
     ∙ ap₂ or_else (looked-up places station number) (one_place (named station number place) place)
 
--- what a value becomes, if there is one
+-- what a value becomes, if there is one, told by each call
 pub mapped :
     {Given Made : Type 0} {Told : Given → Made → Type 0} (found : Option Given) (made : Option Made) (tell : Given → Made)
     → MatchOption found (made ≡ None) (λ x. IsSomeAnd made (Told x)) → ((x : Given) (y : Made) → Told x y → y ≡ tell x)
@@ -47,6 +47,7 @@ mapped (Some x) (Some y) tell cases says = ap Some (says x y cases)
 mapped (Some x) None tell cases says = absurd cases
 mapped None made tell cases says = cases
 
+-- what it becomes in two steps
 pub map_twice :
     {First Second Third : Type 0} (found : Option First) (tell : First → Second) (say : Second → Third)
     → option_map (λ x. say (tell x)) found ≡ option_map say (option_map tell found)

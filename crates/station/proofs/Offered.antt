@@ -1,12 +1,11 @@
--- What an offer answers and leaves, from what it decided. Assumes nothing.
-use Rattle.std.proofs.Common.{◌≡◌, ℕ, List, length, Err, Result, sym, refl, ap, ◌∙◌, subst}
-use Rattle.model.specs.Calls.{Outcome, offer_decided, offer_of, outcome, take_decided, take_of}
+-- What a call does, and what an offer answers. Assumes nothing.
+use Rattle.std.proofs.Common.{◌≡◌, ℕ, List, Result, sym, ap, ◌∙◌, subst}
+use Rattle.model.specs.Calls.{Outcome, offer_of}
 use Rattle.model.specs.Meanings.{OfferAnswers}
-use Rattle.model.specs.States.{State, accepting}
+use Rattle.model.specs.States.{State}
 use Rattle.model.proofs.AnswerLaws.{offer_answers}
 use Rattle.wire.specs.declared.fault.Fault.{Fault}
-use Rattle.wire.specs.declared.message.Message.{Message}
-use Rattle.station.specs.Standing.{Does, SameMemory, UnchangedIfRefused, state_of_station, table_after}
+use Rattle.station.specs.Standing.{Does, state_of_station}
 use Rattle.station.specs.declared.station.Station.{Station}
 
 -- a call does what its definition says, if it does so in the state that the station stands for

@@ -1,6 +1,6 @@
 -- Memory whose places are written one after another. Assumes nothing.
-use Rattle.std.proofs.Common.{◌≡◌, ℕ, ◌+◌, ◌<◌, ◌≤◌, List, [], ◌∷◌, ◌++◌, length, get_or, take, drop, set, sym, ap, ◌∙◌, ap₂, add-zero, arith}
-use Rattle.std.proofs.lemmas.List.{append_assoc, drop_more, length-append, length-drop, length_push, length-take-le, set_at, take-append-drop, take_at}
+use Rattle.std.proofs.Common.{◌≡◌, ℕ, ◌+◌, ◌<◌, ◌≤◌, List, [], ◌∷◌, ◌++◌, length, get_or, take, drop, set, sym, ap, ◌∙◌, ap₂, arith}
+use Rattle.std.proofs.lemmas.List.{append_assoc, drop_more, length-append, length-drop, length_push, length-take-le, set_at, take_at}
 use Rattle.station.specs.Memory.{overwritten}
 
 module _ {Place : Type 0} (memory : List Place) (at : ℕ) where

@@ -1,5 +1,5 @@
--- What a release answers and leaves, from what it decided. Assumes nothing.
-use Rattle.std.proofs.Common.{◌≡◌, ℕ, true, false, List, map, length, Ok, Err, Result, sym, refl, ap, ◌∙◌, subst}
+-- What a release answers. Assumes nothing.
+use Rattle.std.proofs.Common.{◌≡◌, ℕ, true, false, List, Ok, Result, sym, subst}
 use mathlib.Core.Bool.{Bool-set}
 use mathlib.Core.Logic.{∥∥₁_elim}
 use Rattle.board.specs.Ballots.{is_board, is_group}
@@ -8,19 +8,16 @@ use Rattle.board.specs.Rules.{RuleMeaning}
 use Rattle.board.specs.declared.board.Board.{Board}
 use Rattle.board.proofs.Made.{board_of_sets}
 use Rattle.ties.specs.Ties.{TieMeaning}
-use Rattle.model.specs.Calls.{outcome, release_decided, release_of}
+use Rattle.model.specs.Calls.{release_of}
 use Rattle.model.specs.Heads.{board_at, present_set, voter_sets}
 use Rattle.model.specs.Meanings.{ReleaseAnswers}
-use Rattle.model.specs.States.{is_shut, known, released, releasing}
-use Rattle.model.specs.declared.entry.Entry.{Entry}
+use Rattle.model.specs.States.{is_shut, known, released}
 use Rattle.model.proofs.BoardLaws.{board_holds}
 use Rattle.model.proofs.ReleaseAnswers.{release_answers}
 use Rattle.wire.specs.declared.fault.Fault.{Fault}
-use Rattle.station.specs.Memory.{holding, overwritten}
-use Rattle.station.specs.Standing.{Does, SameMemory, UnchangedIfRefused, roll_after, state_of_station}
+use Rattle.station.specs.Standing.{state_of_station}
 use Rattle.station.specs.declared.station.Station.{Station}
 use Rattle.station.proofs.Boarded.{group_told}
-use Rattle.station.proofs.Offered.{does}
 
 -- an open station has a board
 board-there :

@@ -5,6 +5,7 @@ ghost use Rattle.station.specs.Memory.{holding};
 use crate::places::Place;
 
 // A list in lent memory: its items stand in the first places, and what stands beyond them does not count.
+// The memory is the caller's for the day and nothing is allocated, so it is a part and a length, and no vector.
 #[derive(Drop)]
 pub(crate) struct Lent<'a, T> {
     places: &'a mut [Place<T>],

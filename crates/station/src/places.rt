@@ -18,6 +18,7 @@ pub type TablePlace = Place<Message>;
 // One place of the roll.
 pub type RollPlace = Place<Entry>;
 
+// Each kind of place has an empty one of its own: it is a constant, and `Default` makes none.
 impl Place<Message> {
     // A place to lend. What a lent place holds before the day does not matter.
     pub const EMPTY: TablePlace = Place { content: NOTHING };

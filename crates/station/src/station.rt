@@ -20,6 +20,9 @@ mod showing;
 mod taking;
 mod writing;
 
+// What a call keeps stands in clauses of its own at each call: a name for them together would hide which
+// memory the call alters.
+
 // One process (replica) of a group that puts its messages into one order. Table and roll are lent to it
 // for the day; it allocates nothing.
 #[derive(Drop)]
@@ -34,7 +37,8 @@ pub struct Station<'a> {
     posted: usize,
     // the number of the last wave
     waves: u32,
-    // how many messages of each station are accepted, and how many are on the roll
+    // how many messages of each station are accepted, and how many are on the roll: two lists, since the
+    // first is copied whole into a message, and each is compared whole
     accepted: [u16; STATIONS],
     released: [u16; STATIONS],
     ghost posts_fit: { posted ≤ roll.used },

@@ -1,13 +1,23 @@
 // Questions to a board.
-ghost use Rattle.std.specs.Prelude.{◌≡◌};
+ghost use Rattle.std.specs.Prelude.{◌≡◌, Decides};
 ghost use Rattle.board.specs.Ballots.{votes_for};
-ghost use Rattle.board.specs.Boards.{absent, all_present, candidate, is_absent, is_present, lead, member, voters_at};
+ghost use Rattle.board.specs.Boards.{ComparingDecides, absent, all_present, candidate, is_absent, is_present, is_same_board, lead, member, voters_at};
 ghost use Rattle.board.specs.Sets.{set_of};
 
 use crate::board::Board;
 use crate::sets::{first, holds, minus, size};
 
 impl Board {
+    // Whether two boards are the same board, which is what comparing them by `==` answers.
+    pub fn is_same(&self, other: &Board) -> bool
+        ensures answer { result ≡ is_same_board self.now other.now }
+        ensures same { Decides result (self.now ≡ other.now) }
+        ensures compared { (board other : Board) → ⟦<Board as PartialEq>⟧.eq board other ≡ is_same_board board other }
+        ensures comparing { ComparingDecides }
+    {
+        self == other
+    }
+
     // The stations of the group.
     pub fn members(&self) -> u16
         ensures { result ≡ set_of (member self.now) }

@@ -1,7 +1,7 @@
 // Making a board from a caller's sets.
 ghost use Rattle.std.specs.Prelude.{◌≡◌, not, ◌&&◌, ◌==◌};
 ghost use Rattle.board.specs.Ballots.{fair, is_board, voting_set};
-ghost use Rattle.board.specs.Boards.{ComparingDecides, board_of, is_same_board};
+ghost use Rattle.board.specs.Boards.{board_of};
 ghost use Rattle.board.specs.Sets.{every, has, implies, up_to, within};
 
 use crate::board::Board;
@@ -9,12 +9,9 @@ use crate::sets::{STATIONS, holds, is_within, join};
 use wire::{Fault, is_group};
 
 impl Board {
-    // The board of a caller's sets: refuses an n outside 1 to 16, then sets that are no board. Two boards
-    // are equal just where they are the same board.
+    // The board of a caller's sets: refuses an n outside 1 to 16, then sets that are no board.
     pub fn new(n: u8, present: u16, voters: [u16; STATIONS]) -> Result<Board, Fault>
-        ensures made { result ≡ board_of n present voters }
-        ensures compared { (board other : Board) → ⟦<Board as PartialEq>⟧.eq board other ≡ is_same_board board other }
-        ensures comparing { ComparingDecides }
+        ensures { result ≡ board_of n present voters }
     {
         if !is_group(n) {
             return Err(Fault::Setting);
@@ -33,7 +30,8 @@ pub fn voting(voters: &[u16; STATIONS]) -> u16
     voters.iter().copied().fold(0, join)
 }
 
-// Whether the sets are a board of n.
+// Whether the sets are a board of n. They and n stay apart until they are found to be one: that is what a
+// Board says.
 #[tactic(auto, using(crate::proofs::Made::all_vote))]
 fn is_board(n: u8, present: u16, voters: &[u16; STATIONS]) -> bool
     ensures { result ≡ is_board n present voters.now }

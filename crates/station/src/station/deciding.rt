@@ -3,7 +3,7 @@ ghost use Rattle.std.specs.Prelude.{◌≡◌, ◌<◌, suc, IfOk, Ok};
 ghost use Rattle.model.specs.Calls.{next_wave, release_decided};
 ghost use Rattle.model.specs.Heads.{board_at, head};
 ghost use Rattle.model.specs.Sound.{MayRelease};
-ghost use Rattle.model.specs.States.{is_shut, known, released};
+ghost use Rattle.model.specs.States.{known, released};
 ghost use Rattle.station.specs.Standing.{AreHeads, entries_of, state_of_station, wave_told};
 
 use crate::station::Station;
@@ -41,7 +41,8 @@ impl Open<'_, '_> {
         array::from_fn(|place| self.head(place))
     }
 
-    // The head of the station at a place: its first accepted message that is not released.
+    // The head of the station at a place: its first accepted message that is not released. A place is a
+    // number below 16: from_fn gives numbers, so a type of places would be made anew at each call.
     fn head(&self, place: usize) -> Option<Message>
         requires { place < 16 }
         ensures { result ≡ head (known (state_of_station self.now.station.now)) (released (state_of_station self.now.station.now)) (suc place) }

@@ -47,7 +47,8 @@ impl Station<'_> {
         (0..STATIONS).any(|place| self.is_crossed_at(message, place))
     }
 
-    // The same for the station at a place.
+    // The same for the station at a place. A place is a number below 16: a range gives numbers, so a type of
+    // places would be made anew at each call.
     fn is_crossed_at(&self, message: &Message, place: usize) -> bool
         requires { place < 16 }
         ensures { result ≡ is_crossed_by (known (state_of_station self.now)) message.now place }

@@ -1,8 +1,7 @@
 // Carrying the roll out on a book.
-ghost use Rattle.std.specs.Prelude.{◌≡◌, suc};
-ghost use Rattle.model.specs.Calls.{post_decided, post_of, posted_book, to_post};
+ghost use Rattle.std.specs.Prelude.{◌≡◌};
+ghost use Rattle.model.specs.Calls.{post_decided, post_of, posted_book};
 ghost use Rattle.model.specs.Meanings.{PostAnswers};
-ghost use Rattle.model.specs.States.{entry_at};
 ghost use Rattle.station.specs.Standing.{Does, SameIfRefused, SameMemory, UnchangedIfRefused, state_of_station};
 
 use crate::station::Station;

@@ -27,8 +27,9 @@ impl Station<'_> {
         ensures lent { SameMemory self.old self.new }
     {
         let wave = self.decide(rule, order)?;
+        let count = wave.messages.len();
         self.append(&wave);
-        Ok(wave.messages.len())
+        Ok(count)
     }
 
     // Puts a decided wave on the roll.

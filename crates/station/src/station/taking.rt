@@ -1,13 +1,12 @@
 // Taking messages in.
-ghost use Rattle.std.specs.Prelude.{◌≡◌, true, false, length, if◌then◌else◌, slice_set};
-ghost use Rattle.model.specs.Calls.{carried_message, offer_decided, offer_of, take_decided, take_of};
+ghost use Rattle.std.specs.Prelude.{◌≡◌, length, if◌then◌else◌, slice_set};
+ghost use Rattle.model.specs.Calls.{carried_message, offer_decided, offer_of, take_decided};
 ghost use Rattle.model.specs.Following.{alike};
 ghost use Rattle.model.specs.Meanings.{OfferAnswers};
 ghost use Rattle.model.specs.Sound.{MayAccept};
-ghost use Rattle.model.specs.States.{accepting, is_full, is_shut};
+ghost use Rattle.model.specs.States.{accepting, is_full};
 ghost use Rattle.station.specs.Memory.{holding};
 ghost use Rattle.station.specs.Standing.{Does, SameMemory, UnchangedIfRefused, state_of_station, table_after};
-ghost use Rattle.wire.specs.Messages.{well_formed};
 ghost use Rattle.wire.specs.declared.fault.Fault.TheVariants.{Clash, Repeat};
 
 use crate::station::Station;

@@ -1,13 +1,11 @@
 // Writing the own station's messages.
-ghost use Rattle.std.specs.Prelude.{◌≡◌, ◌+◌, ◌-◌, ◌≤◌, false, length, slice_index};
+ghost use Rattle.std.specs.Prelude.{◌≡◌, length};
 ghost use Rattle.model.specs.Calls.{may_write, next_message, write_decided, write_of, written_block};
 ghost use Rattle.model.specs.Meanings.{WriteAnswers};
-ghost use Rattle.model.specs.States.{is_shut};
 ghost use Rattle.station.specs.Standing.{Does, SameMemory, UnchangedIfRefused, state_of_station, table_after};
 
 use crate::station::Station;
 use crate::station::open::Open;
-use board::sets::STATIONS;
 use wire::message::CLASSES;
 use wire::reading::is_note;
 use wire::{BLOCK, Fault, Message, fill};
@@ -37,7 +35,7 @@ impl Station<'_> {
         Ok(())
     }
 
-    // The message that write would make.
+    // The message that write would make. Class, order bytes, note and block stay apart, as makers give them.
     fn draft(&self, class: u8, order: &[u8; 8], note: &[u8], block: &[u8]) -> Result<Message, Fault>
         ensures { result ≡ write_decided (state_of_station self.now) class order.now note.now block.now }
     {

@@ -7,4 +7,4 @@ pub returns : goal.returns
 returns g c =
     ap (λ (answer : Option ℕ). Ok answer) c.settle.ensures
     ∙ ap (answered (g.R.Rule.means c.args.rule.now))
-    (c.in_ok-board.ensures.made ∙ ap (λ present. board_of c.args.n present c.args.voters) c.voting.ensures)
+    (c.in_ok-board.ensures ∙ ap (λ present. board_of c.args.n present c.args.voters) c.voting.ensures)

@@ -1,12 +1,10 @@
-use Rattle.std.proofs.Common.{◌+◌, suc, length, map, sym, refl, ap, ◌∙◌, ap₂, subst, add-one, arith}
+use Rattle.std.proofs.Common.{◌+◌, suc, length, map, sym, ap, ◌∙◌, ap₂, subst, add-one, arith}
 use Rattle.model.specs.Accepted.{tallies}
 use Rattle.model.specs.Calls.{as_entries}
 use Rattle.model.specs.Sound.{Sound}
 use Rattle.model.specs.States.{last_wave, on_roll}
 use Rattle.station.specs.Memory.{holding, overwritten}
-use Rattle.station.specs.Standing.{entries_of}
 use Rattle.station.proofs.Appended.{counts_next, roll_next, sound_next, state_next, wave_room, waves_next}
-use Rattle.station.proofs.Shown.{entries-long}
 use Rattle.station.proofs.station.Station.append.Goals as goal
 
 pub put_entries-requires : goal.put_entries-requires
@@ -37,8 +35,8 @@ invariant_of-self c =
           (sound_next station wave c.requires);
     }
 
-pub returns : goal.returns
-returns c =
+pub returns-clause-next : goal.returns-clause-next
+returns-clause-next c =
     let station = c.args.self.now in
     let wave = c.args.wave.now in
     let written =
@@ -46,12 +44,4 @@ returns c =
     ∙ ap₂ (λ k messages. overwritten station.roll.places.now station.roll.used (map holding (as_entries k messages)))
     (add-one station.waves ∙ ap suc station.waves_told) c.deref.ensures.0 in
     let used = c.put_entries.ensures.used ∙ ap (λ messages. station.roll.used + length messages) c.deref.ensures.0 in
-    record {
-      next = state_next station wave c.requires c.put_entries.new.roll written used;
-      table = refl;
-      roll =
-          written
-          ∙ ap (λ k. overwritten station.roll.places.now k (map holding (entries_of station wave)))
-          (sym (entries-long station.roll.places.now station.roll.used station.roll.fits));
-      lent = record { table = refl; roll = c.put_entries.ensures.lent };
-    }
+    state_next station wave c.requires c.put_entries.new.roll written used

@@ -3,15 +3,8 @@ use borrow.Author.Tests.{tests}
 use Rattle.std.specs.Option.{option_map}
 use Rattle.std.proofs.lemmas.Iterator.Adapters.{YieldsList-from_rev_slice}
 use Rattle.std.proofs.lemmas.Iterator.Search.{find_from_yields_List}
-use Rattle.station.specs.Standing.{state_of_station}
-use Rattle.station.proofs.Held.{none_beyond}
 use Rattle.station.proofs.Looked.{looked-up, map_twice, mapped, named}
 use Rattle.station.proofs.station.Station.find.Goals as goal
-
-pub returns-then-is_beyond : goal.returns-then-is_beyond
-returns-then-is_beyond c =
-    none_beyond (state_of_station c.args.self.now) c.args.station c.args.number c.args.self.now.sound
-    c.if-is_beyond.ensures
 
 pub returns : goal.returns
 returns c =

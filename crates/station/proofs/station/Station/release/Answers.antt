@@ -31,8 +31,8 @@ returns-clause-outcome g c =
     let state = state_of_station c.args.self.now in
     let long = wave_long c.args.self.now c.in_ok-wave.wave c.in_ok-wave.ensures.may in
     does c.args.self.now c.append.new.self
-    (λ state. release_of state (g.R.Rule.means c.args.rule.now) (g.T.TieOrder.means c.args.order.now)) (Ok c.len.result)
-    (ap Ok (c.len.ensures.value ∙ sym long)
+    (λ state. release_of state (g.R.Rule.means c.args.rule.now) (g.T.TieOrder.means c.args.order.now)) (Ok c.len-count.result)
+    (ap Ok (c.len-count.ensures.value ∙ sym long)
     ∙ ap (λ decided. (outcome state decided length (releasing state)).answer) c.in_ok-wave.ensures.wave)
     (c.append.ensures.next ∙ ap (λ decided. (outcome state decided length (releasing state)).next) c.in_ok-wave.ensures.wave)
 
@@ -40,6 +40,6 @@ pub returns-clause-answers : goal.returns-clause-answers
 returns-clause-answers g c =
     let state = state_of_station c.args.self.now in
     let long = wave_long c.args.self.now c.in_ok-wave.wave c.in_ok-wave.ensures.may in
-    release_answered c.args.self.now (g.R.Rule.means c.args.rule.now) (g.T.TieOrder.means c.args.order.now) (Ok c.len.result)
-    (ap Ok (c.len.ensures.value ∙ sym long)
+    release_answered c.args.self.now (g.R.Rule.means c.args.rule.now) (g.T.TieOrder.means c.args.order.now) (Ok c.len-count.result)
+    (ap Ok (c.len-count.ensures.value ∙ sym long)
     ∙ ap (λ decided. (outcome state decided length (releasing state)).answer) c.in_ok-wave.ensures.wave)

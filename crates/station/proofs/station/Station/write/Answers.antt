@@ -4,7 +4,7 @@ use Rattle.model.specs.Calls.{outcome}
 use Rattle.model.specs.States.{accepting}
 use Rattle.model.proofs.Decided.{never-taken}
 use Rattle.station.specs.Standing.{state_of_station}
-use Rattle.station.proofs.Drafted.{filled_is, filling_done, may_write_it, write_answered}
+use Rattle.station.proofs.Drafted.{filling_done, may_write_it, write_answered}
 use Rattle.station.proofs.station.Station.write.Goals as goal
 
 pub returns-in_err-message-clause-answers : goal.returns-in_err-message-clause-answers
@@ -33,9 +33,3 @@ returns-clause-answers c =
     let state = state_of_station c.args.self.now in
     write_answered c.args.self.now c.args.class c.args.order.now c.args.note.now c.args.block.now (Ok tt)
     (ap (λ decided. (outcome state decided (λ _. tt) (accepting state)).answer) c.in_ok-message.ensures)
-
-pub returns-clause-block : goal.returns-clause-block
-returns-clause-block c =
-    c.fill.ensures.memory
-    ∙ filled_is c.args.self.now c.args.class c.args.order.now c.args.note.now c.args.block.now
-    c.in_ok-message.message (sym c.in_ok-message.ensures)

@@ -1,17 +1,6 @@
-use Rattle.std.proofs.Common.{length, ap, ◌∙◌, arith}
-use Rattle.station.proofs.Appended.{one_written, places-long, places_of}
-use Rattle.station.proofs.Overwritten.{overwritten_long}
+use Rattle.std.proofs.Common.{◌∙◌, arith}
+use Rattle.station.proofs.Appended.{one_written}
 use Rattle.station.proofs.station.releasing.put_entries.Goals as goal
-
-pub push-requires : goal.push-requires
-push-requires c =
-    let below = c.loop-message-test.true in
-    let put = places-long c.args.wave c.loop-message.message-index c.args.messages.now (omega arith) in
-    let long =
-    ap length c.loop-message.invariant.places
-    ∙ overwritten_long c.args.roll.now.places.now c.args.roll.now.used
-    (places_of c.args.wave c.loop-message.message-index c.args.messages.now) (omega arith) in
-    omega arith
 
 pub loop-message-preserved : goal.loop-message-preserved
 loop-message-preserved c =
