@@ -8,6 +8,7 @@ pub mod Sorting
 pub mod WaveLaws
 pub mod Formed
 pub mod Followed
+pub mod BoardSets
 pub mod BoardLaws
 pub mod HeadLaws
 pub mod AnswerLaws

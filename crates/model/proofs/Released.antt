@@ -4,8 +4,8 @@ use Rattle.std.proofs.lemmas.Grind.{common_steps}
 use Rattle.std.proofs.lemmas.List.{length-append, length-map, map-append}
 use Rattle.std.proofs.lemmas.Bool.{and_from, cases_Bool, cases_lt, eq-eqb, eqb-true, le-leb, true≢false}
 use Rattle.std.proofs.lemmas.Bool.Decides.{nat_tests}
-use Rattle.board.specs.Ballots.{is_board, is_group}
-use Rattle.board.specs.Boards.{board_decided, board_of, votes_at}
+use Rattle.board.specs.Ballots.{is_group}
+use Rattle.board.specs.Boards.{votes_at}
 use Rattle.board.specs.Rules.{RuleMeaning}
 use Rattle.board.specs.Rules as rules
 use Rattle.board.specs.Sets.{has}
@@ -17,6 +17,7 @@ use Rattle.ties.specs.Ties.{TieMeaning}
 use Rattle.ties.specs.Ties as ties
 use Rattle.wire.specs.Words.{sum_below}
 use Rattle.wire.specs.declared.message.Message.{Message}
+use Rattle.model.proofs.BoardSets.{MadeOf, made_of}
 use Rattle.model.specs.declared.entry.Entry.{Entry}
 use Rattle.model.specs.Accepted.{accepted_as, is_named, or_else, tally}
 use Rattle.model.specs.Calls.{as_entries, next_wave, wave_from}
@@ -262,14 +263,15 @@ last-append [] first wave = refl
 last-append (entry ∷ []) first wave = refl
 last-append (entry ∷ next ∷ roll) first wave = last-append (next ∷ roll) first wave
 
-last_more :
+-- the last wave of a roll that a wave was put on
+pub last_more :
     (roll : List Entry) (wave : ℕ) (messages : List Message) → 1 ≤ length messages
     → last_wave (roll ++ as_entries wave messages) ≡ wave
 last_more roll wave [] some = absurd (omega arith)
 last_more roll wave (first ∷ messages) some =
     last-append roll (record { wave = wave; message = first }) (as_entries wave messages) ∙ last_of wave first messages
 
-on_some : (messages : List Message) (message : Message) → On message messages → 1 ≤ length messages
+pub on_some : (messages : List Message) (message : Message) → On message messages → 1 ≤ length messages
 on_some = grind (arith, common_steps)
 
 -- an ascending list has no two messages of one station
@@ -289,24 +291,6 @@ ascending_spread :
 ascending_spread order wave [] lawful ascending = tt
 ascending_spread order wave (first ∷ rest) lawful ascending =
     (before-apart order wave first rest lawful ascending.0, ascending_spread order wave rest lawful ascending.1)
-
--- a board is made of the sets that it was asked for
-pub record MadeOf (n present : ℕ) (voters : List ℕ) (board : Board) : Type 0 where
-  pub n_is : board.n ≡ n
-  pub present_is : board.present ≡ present
-  pub voters_are : board.voters ≡ voters
-
-made_decided :
-    (n present : ℕ) (voters : List ℕ) (group holds : Bool)
-    (g : is_group n ≡ group) (h : is_board n present voters ≡ holds) (board : Board)
-    → board_decided n present voters group holds g h ≡ Ok board → MadeOf n present voters board
-made_decided = grind (arith, common_steps)
-
-pub made_of :
-    (n present : ℕ) (voters : List ℕ) (board : Board) → board_of n present voters ≡ Ok board
-    → MadeOf n present voters board
-made_of n present voters board e =
-    made_decided n present voters (is_group n) (is_board n present voters) refl refl board e
 
 -- the messages of the wave to come
 abbrev pub wave_messages : State → TieMeaning → ℕ → List Message

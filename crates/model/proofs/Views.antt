@@ -1,6 +1,6 @@
 -- Boards of more messages: a wider view extends the board, and two views of one group settle on the same sources.
 -- Assumes nothing.
-use Rattle.std.proofs.Common.{◌≡◌, ℕ, suc, ◌<◌, ◌≤◌, Bool, true, false, not, ◌&&◌, eqb, ltb, leb, ◌⊎◌, List, is_some, Some, None, Ok, Option, sym, refl, ap, ◌∙◌, ap₂, ⊎_elim, arith}
+use Rattle.std.proofs.Common.{◌≡◌, ℕ, suc, ◌<◌, ◌≤◌, Bool, true, false, not, ◌&&◌, eqb, ltb, leb, ◌⊎◌, is_some, Some, None, Ok, Option, sym, refl, ap, ◌∙◌, ap₂, ⊎_elim, arith}
 use Rattle.std.proofs.lemmas.Grind.{common_steps}
 use Rattle.std.proofs.lemmas.List.FromFn.{get_or-map-range_with_len, length-map-range_with_len}
 use Rattle.std.proofs.lemmas.List.{get_or_past}
@@ -8,7 +8,7 @@ use Rattle.std.proofs.lemmas.Bool.{and_from, and_parts, and_right, cases_Bool, c
 use Rattle.board.proofs.Collected.{has_collected}
 use Rattle.board.proofs.Digits.{has-zero}
 use Rattle.board.proofs.Facts.{own_vote, voter_member, voter_present}
-use Rattle.board.specs.Ballots.{is_board, is_group, votes_for}
+use Rattle.board.specs.Ballots.{is_group, votes_for}
 use Rattle.board.specs.Boards as boards
 use Rattle.board.specs.Boards.{Extends, board_decided, votes_at}
 use Rattle.board.specs.Rules.{Lawful, RuleMeaning}
@@ -16,6 +16,7 @@ use Rattle.board.specs.Sets.{has}
 use Rattle.board.specs.declared.board.Board.{Board}
 use Rattle.wire.specs.Messages.{well_formed}
 use Rattle.wire.specs.declared.message.Message.{Message}
+use Rattle.model.proofs.BoardSets.{MadeOf, made_of}
 use Rattle.model.specs.Accepted.{Accepted, or_else}
 use Rattle.model.specs.Following.{Follows, count_of, follows}
 use Rattle.model.specs.Heads.{Released, backs, board_at, head, is_candidate, is_present, present_set, ready_head, voter_sets, voters_of, votes}
@@ -40,22 +41,11 @@ nothing-there message found none some = cc
 
 -- What is on the board of a view.
 
-pub record MadeOf (n present : ℕ) (voters : List ℕ) (board : Board) : Type 0 where
-  pub size : board.n ≡ n
-  pub present_is : board.present ≡ present
-  pub voters_are : board.voters ≡ voters
-
-made_of :
-    (n present : ℕ) (voters : List ℕ) (group holds : Bool)
-    (g : is_group n ≡ group) (h : is_board n present voters ≡ holds) (board : Board)
-    → board_decided n present voters group holds g h ≡ Ok board → MadeOf n present voters board
-made_of = grind (arith, common_steps)
-
 module _
     (n : ℕ) (accepted : Accepted) (released : Released) (board : Board)
     (made : board_at n accepted released ≡ Ok board) where
   pub sets_of : MadeOf n (present_set accepted released) (voter_sets accepted released) board
-  sets_of = grind (arith, common_steps)
+  sets_of = made_of n (present_set accepted released) (voter_sets accepted released) board made
 
   pub present_at : (place : ℕ) → boards.is_present board place ≡ (ltb place 16 && is_present accepted released (suc place))
   present_at place = grind (arith, common_steps, sets_of, has_collected)
@@ -155,7 +145,7 @@ module _
   extended board wide made made_Wide =
       record {
         same_group =
-            (sets_of n wider released wide made_Wide).size ∙ sym (sets_of n accepted released board made).size;
+            (sets_of n wider released wide made_Wide).n_is ∙ sym (sets_of n accepted released board made).n_is;
         none_lost = kept;
         same_votes =
             λ voter place old.
@@ -296,7 +286,7 @@ module _
 
   pub source_member : place < n
   source_member =
-      let size = (sets_of n accepted released board made).size in
+      let size = (sets_of n accepted released board made).n_is in
       let below = voter_member board place place own_voter in
       omega (arith, size, below)
 
@@ -316,8 +306,8 @@ pub same-sources :
     → board_at n accepted released ≡ Ok board → board_at n other released ≡ Ok board'
     → rule.answer board ≡ Some sources → rule'.answer board' ≡ Some sources' → sources ≡ sources'
 same-sources n accepted other released rule rule' board board' sources sources' orderly theirs agree lawful same made made' settled settled' =
-    let size = (sets_of n accepted released board made).size in
-    let size' = (sets_of n other released board' made').size in
+    let size = (sets_of n accepted released board made).n_is in
+    let size' = (sets_of n other released board' made').n_is in
     let whole = union_orderly n accepted other orderly theirs agree in
     let wide = boards_are_there n (union accepted other) released (sym (ap is_group size) ∙ board.group) whole in
     let left =

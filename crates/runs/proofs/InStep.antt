@@ -11,6 +11,7 @@ use Rattle.ties.specs.Ties as ties
 use Rattle.wire.specs.declared.fault.Fault.{Fault}
 use Rattle.wire.specs.declared.fault.Fault.TheVariants.{Setting}
 use Rattle.wire.specs.declared.message.Message.{Message}
+use Rattle.model.proofs.Released.{last_more, on_some}
 use Rattle.model.specs.declared.entry.Entry.{Entry}
 use Rattle.model.specs.Calls.{as_entries, offer_decided, outcome, post_decided, release_decided, release_of, show_decided, show_of, shown_entry, wave_from, write_decided}
 use Rattle.model.specs.Heads.{head}
@@ -146,23 +147,10 @@ roll-more run calls call =
 
 -- Waves are numbered from 1, one by one.
 
-last-after :
-    (roll : List Entry) (first : Entry) (rest : List Entry)
-    → last_wave (roll ++ first ∷ rest) ≡ last_wave (first ∷ rest)
-last-after [] first rest = refl
-last-after (entry ∷ []) first rest = refl
-last-after (entry ∷ next ∷ entries) first rest = last-after (next ∷ entries) first rest
-
-last-listed : (wave : ℕ) (first : Message) (rest : List Message) → last_wave (as_entries wave (first ∷ rest)) ≡ wave
-last-listed wave first [] = refl
-last-listed wave first (second ∷ rest) = last-listed wave second rest
-
 last_of :
     (roll : List Entry) (wave : ℕ) (messages : List Message) (message : Message) → On message messages
     → last_wave (roll ++ as_entries wave messages) ≡ wave
-last_of roll wave [] message on = elim on [ ]
-last_of roll wave (first ∷ rest) message on =
-    last-after roll (record { wave = wave; message = first }) (as_entries wave rest) ∙ last-listed wave first rest
+last_of roll wave messages message on = last_more roll wave messages (on_some messages message on)
 
 -- a wave that is put on the roll is the next
 next_wave-is :

@@ -35,7 +35,7 @@ open_and_settled :
 open_and_settled state wide rule rule' order order' sources sound sound' same_n same-roll within lawful same settled found none =
     let made =
     ap₂ (λ (n : ℕ) (roll : List Entry). board_at n (known wide) (tally (on_roll roll))) same_n same-roll ∙ found.board_is in
-    let size = (sets_of state.settings.n (known wide) (released state) found.board made).size in
+    let size = (sets_of state.settings.n (known wide) (released state) found.board made).n_is in
     let still =
     lawful.stays_settled settled.board found.board sources
     (board-extended state.settings.n (known state) (known wide) (released state) settled.board found.board

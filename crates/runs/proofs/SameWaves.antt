@@ -115,7 +115,7 @@ module _
     where
       small : order.n ≤ 16
       small =
-          let size = (sets_of n accepted released-of board made).size in
+          let size = (sets_of n accepted released-of board made).n_is in
           let last = group-last board in
           omega (arith, size, last, order_n)
 

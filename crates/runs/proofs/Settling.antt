@@ -1,12 +1,12 @@
 -- What a settled board releases: heads that follow nothing unreleased, at least one; and when nobody is absent.
 -- Assumes nothing.
-use Rattle.std.proofs.Common.{◌≡◌, ℕ, zero, suc, ◌<◌, ◌≤◌, Bool, true, false, not, leb, List, is_some, Some, None, Ok, Option, sym, refl, ap, ◌∙◌, ⊎_elim, arith}
+use Rattle.std.proofs.Common.{◌≡◌, ℕ, zero, suc, ◌<◌, ◌≤◌, true, false, not, leb, List, is_some, Some, None, Ok, Option, sym, refl, ap, ◌∙◌, ⊎_elim, arith}
 use Rattle.std.proofs.lemmas.List.FromFn.{get_or-map-range_with_len}
 use Rattle.std.proofs.lemmas.Bool.{and_left, and_parts, and_right, cases_lt, eq-eqb, le-ltb, leb-true, true≢false}
 use Rattle.board.proofs.Digits.{has-mask}
 use Rattle.board.proofs.Facts.{candidate-place, group-last, own_vote, voter_member}
 use Rattle.board.proofs.Places.{all-at, count-nothing}
-use Rattle.board.specs.Ballots.{is_board, is_group, votes_for}
+use Rattle.board.specs.Ballots.{votes_for}
 use Rattle.board.specs.Boards.{absent, all_present, board_decided, candidate, is_absent, member}
 use Rattle.board.specs.Boards as boards
 use Rattle.board.specs.Rules.{RuleMeaning}
@@ -24,31 +24,11 @@ use Rattle.model.specs.Heads.{Released, backs, board_at, head, is_candidate, is_
 use Rattle.model.specs.Sound.{Sound}
 use Rattle.model.specs.States.{State, known, released}
 use Rattle.model.specs.Waves.{HeadsOf, IsWave, On, wave_of}
+use Rattle.model.proofs.BoardSets.{MadeOf, made_of}
 use Rattle.model.proofs.Followed.{some-message}
 use Rattle.model.proofs.MessageFacts.{no_count-above}
 use Rattle.model.proofs.WaveLaws.{waves_are_one}
 use Rattle.runs.proofs.Reached.{Settled}
-
--- The board that is shown is of the station's group, with its present stations and voters.
-
-record Shows (n present : ℕ) (voters : List ℕ) (board : Board) : Type 0 where
-  n_is : board.n ≡ n
-  present_is : board.present ≡ present
-  voters_are : board.voters ≡ voters
-
-decided_shows :
-    (n present : ℕ) (voters : List ℕ) (group holds : Bool)
-    (g : is_group n ≡ group) (h : is_board n present voters ≡ holds) (board : Board)
-    → board_decided n present voters group holds g h ≡ Ok board → Shows n present voters board
-decided_shows n present voters true true g h board e =
-    let same : record { n = n; present = present; voters = voters; group = g; holds = h } ≡ board = cc in
-    record {
-      n_is = sym (ap (λ (b : Board). b.n) same);
-      present_is = sym (ap (λ (b : Board). b.present) same);
-      voters_are = sym (ap (λ (b : Board). b.voters) same);
-    }
-decided_shows n present voters true false g h board e = absurd (let z : ◌≡◌ {A = ℕ} 0 1 = cc in omega arith)
-decided_shows n present voters false holds g h board e = absurd (let z : ◌≡◌ {A = ℕ} 0 1 = cc in omega arith)
 
 -- a head that is ready is there
 some-ready : (released : Released) (found : Option Message) → ready_head released found ≡ true → is_some found ≡ true
@@ -58,10 +38,9 @@ some-ready released None e = absurd (true≢false (sym e))
 module _
     (n : ℕ) (accepted : Accepted) (released : Released) (board : Board)
     (shown : board_at n accepted released ≡ Ok board) where
-  shows : Shows n (present_set accepted released) (voter_sets accepted released) board
-  shows =
-      decided_shows n (present_set accepted released) (voter_sets accepted released)
-      (is_group n) (is_board n (present_set accepted released) (voter_sets accepted released)) refl refl board shown
+  -- the board that is shown is of the station's group, with its present stations and voters
+  shows : MadeOf n (present_set accepted released) (voter_sets accepted released) board
+  shows = made_of n (present_set accepted released) (voter_sets accepted released) board shown
 
   pub board_size : board.n ≡ n
   board_size = shows.n_is
