@@ -1,9 +1,9 @@
 -- Loops over the places: a set that is collected, a search for a place that passes. Assumes nothing.
 use Rattle.std.proofs.Common.{◌≡◌, ℕ, suc, ◌+◌, ◌^◌, ◌<◌, ◌≤◌, Bool, true, false, cond, ◌&&◌, ◌||◌, eqb, ltb, sym, ap, ◌∙◌, ap₂, ⊎_elim, add-one, arith, pow_mono}
-use Rattle.std.proofs.lemmas.Bool.{cases_Bool, cases_lt, cases_eq, lt-ltb, le-ltb, eq-eqb, ne_eqb}
+use Rattle.std.proofs.lemmas.Bool.{cases_Bool, cases_lt, cases_eq, lt-ltb, le-ltb, or_from, eq-eqb, ne_eqb}
 use Rattle.std.proofs.lemmas.Bool.Decides.{nat_tests}
-use Rattle.board.specs.Sets.{has, mask}
-use Rattle.board.proofs.Places.{mask-none}
+use Rattle.board.specs.Sets.{has, some, mask}
+use Rattle.board.proofs.Places.{some-from, some_more, mask-none}
 use Rattle.board.proofs.Digits.{has-below, has-mask, has_same, mask_below}
 
 -- a collected set has a place just where it lies below the bound and passes
@@ -68,3 +68,12 @@ collects_not test place before e b =
   where
     zeroed : (s : ℕ) → 0 + s ≡ s
     zeroed s = omega arith
+
+-- a search for a place that passes
+
+pub some-found : (test : ℕ → Bool) (n place : ℕ) → place < n → test place ≡ true → true ≡ some test n
+some-found test n place h e = sym (some-from test n place h e)
+
+pub some_goes_on : (test : ℕ → Bool) (place : ℕ) → some test place ≡ false → test place ≡ false → some test (place + 1) ≡ false
+some_goes_on test place below here =
+    ap (some test) (add-one place) ∙ some_more test place ∙ or_from (test place) (some test place) here below

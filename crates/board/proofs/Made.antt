@@ -1,6 +1,6 @@
 -- Boards and their sets: the steps by which the code makes one, and that a board is the board of its sets.
 -- Assumes nothing.
-use Rattle.std.proofs.Common.{◌≡◌, ℕ, zero, suc, length, [], ◌∷◌, ap₂, ◌+◌, ◌*◌, ◌/◌, ◌%◌, ◌^◌, ◌<◌, ◌≤◌, Bool, true, false, not, ◌&&◌, ◌||◌, eqb, List, Ok, Result, sym, refl, ap, ◌∙◌, subst, ⊎_elim, arith, pow_pos, pow_mono}
+use Rattle.std.proofs.Common.{◌≡◌, ℕ, zero, suc, length, [], ◌∷◌, ap₂, ◌+◌, ◌*◌, ◌/◌, ◌%◌, ◌^◌, ◌<◌, ◌≤◌, Bool, true, false, not, ◌&&◌, ◌||◌, eqb, List, Ok, Result, sym, refl, ap, ◌∙◌, subst, ⊎_elim, add-one, arith, pow_pos, pow_mono}
 use mathlib.Core.Bool.{Bool-set}
 use native.Mathlib.Nat.{div-eq_of_lt}
 use Rattle.std.proofs.lemmas.Nat.{shr_split, mod_below}
@@ -15,7 +15,7 @@ use Rattle.board.specs.Sets.{has, all, some, count, mask, implies, within, every
 use Rattle.board.specs.Ballots.{is_group, is_board, votes_for, votes, voting_set}
 use Rattle.board.specs.Boards.{ComparingDecides, board_decided, board_of, is_same_board}
 use Rattle.board.specs.declared.board.Board.{Board}
-use Rattle.board.proofs.Places.{all-at, all_same, some-none, mask-same, count_same}
+use Rattle.board.proofs.Places.{all-at, all_more, all_same, some-none, some_more, mask-same, count_same}
 use Rattle.board.proofs.Digits.{has-zero, has-mask, mask_below, mask_is}
 
 -- only stations 1 to n
@@ -43,6 +43,31 @@ up_to-is n set =
 pub all_fails : (test : ℕ → Bool) (n place : ℕ) → place < n → test place ≡ false → false ≡ all test n
 all_fails test n place h e =
     ⊎_elim (λ t. absurd (true≢false (sym (all-at test n place t h) ∙ e))) sym (cases_Bool (all test n))
+
+pub all_goes_on : (test : ℕ → Bool) (place : ℕ) → all test place ≡ true → test place ≡ true → all test (place + 1) ≡ true
+all_goes_on test place below here =
+    ap (all test) (add-one place) ∙ all_more test place ∙ and_from (test place) (all test place) here below
+
+-- who votes for a candidate at an earlier place
+
+pub voting_none : (voters : List ℕ) → 0 ≡ mask (λ voter. some (λ candidate. has (votes_for voters candidate) voter) 0) 16
+voting_none voters =
+    mask_is (λ voter. some (λ candidate. has (votes_for voters candidate) voter) 0) 16 0 (omega arith)
+    (λ voter _. has-zero voter ∙ sym (some-none (λ candidate. has (votes_for voters candidate) voter)))
+
+pub voting_more :
+    (voters : List ℕ) (place before after : ℕ)
+    → before ≡ mask (λ voter. some (λ candidate. has (votes_for voters candidate) voter) place) 16
+    → after ≡ mask (λ voter. has (votes_for voters place) voter || has before voter) 16
+    → after ≡ mask (λ voter. some (λ candidate. has (votes_for voters candidate) voter) (place + 1)) 16
+voting_more voters place before after b a =
+    a ∙ mask-same (λ voter. has (votes_for voters place) voter || has before voter)
+    (λ voter. some (λ candidate. has (votes_for voters candidate) voter) (place + 1)) 16
+    (λ voter h.
+    ap (λ x. has (votes_for voters place) voter || x)
+    (ap (λ s. has s voter) b ∙ has-mask (λ k. some (λ candidate. has (votes_for voters candidate) k) place) 16 voter h)
+    ∙ sym (ap (some (λ candidate. has (votes_for voters candidate) voter)) (add-one place)
+    ∙ some_more (λ candidate. has (votes_for voters candidate) voter) place))
 
 -- who votes for some candidate, told set by set
 
@@ -83,10 +108,19 @@ joins-voting voters long =
     ∙ ap₂ (λ b n. b || some (λ candidate. has (votes_for voters candidate) voter) n) (has-zero voter) long)
 
 -- every present station is among those that vote
-pub all_vote : (present : ℕ) (voters : List ℕ) → within present (voting_set voters) ≡ every (votes present voters)
-all_vote present voters =
-    all_same (λ place. implies (has present place) (has (voting_set voters) place)) (votes present voters) 16
-    (λ place h. ap (implies (has present place)) (has-mask (λ voter. any (λ candidate. has (votes_for voters candidate) voter)) 16 place h))
+pub all_vote :
+    (present voting : ℕ) (voters : List ℕ)
+    → voting ≡ mask (λ voter. any (λ candidate. has (votes_for voters candidate) voter)) 16
+    → within present voting ≡ every (votes present voters)
+all_vote present voting voters e =
+    all_same (λ place. implies (has present place) (has voting place)) (votes present voters) 16
+    (λ place h. ap (implies (has present place))
+    (ap (λ s. has s place) e ∙ has-mask (λ voter. any (λ candidate. has (votes_for voters candidate) voter)) 16 place h))
+
+pub board_is :
+    (sixteen range each vote answer : Bool) → sixteen ≡ true → range ≡ true → each ≡ true → answer ≡ vote
+    → answer ≡ (sixteen && (range && (each && vote)))
+board_is sixteen range each vote answer s r f e = grind (arith, nat_tests)
 
 -- the number of stations in a set that is told by a test
 pub number-told : (test : ℕ → Bool) (set size : ℕ) → set ≡ mask test 16 → size ≡ count (has set) 16 → size ≡ count test 16

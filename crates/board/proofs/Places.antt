@@ -1,5 +1,5 @@
 -- Tests over the places below a bound: every, some, how many, the set of them. Assumes nothing.
-use Rattle.std.proofs.Common.{◌≡◌, ℕ, zero, suc, ◌+◌, ◌<◌, ◌≤◌, Bool, true, false, cond, ◌||◌, Decides, sym, refl, ap, ◌∙◌, ⊎_elim, arith}
+use Rattle.std.proofs.Common.{◌≡◌, ℕ, zero, suc, ◌+◌, ◌<◌, ◌≤◌, Bool, true, false, cond, ◌&&◌, ◌||◌, Decides, sym, refl, ap, ◌∙◌, ⊎_elim, arith}
 use Rattle.std.proofs.lemmas.Bool.{cases_eq, cases_Bool, and_cases, true≢false}
 use Rattle.std.proofs.lemmas.Bool.Decides.{Decides-below_and, Decides-below_or}
 use Rattle.board.specs.Sets.{all, some, count, mask}
@@ -46,6 +46,14 @@ some-nothing test n none =
     (λ f. f) (cases_Bool (some test n))
 
 -- one place more
+
+pub all_none : (test : ℕ → Bool) → all test 0 ≡ true
+unfolding all
+all_none test = refl
+
+pub all_more : (test : ℕ → Bool) (n : ℕ) → all test (suc n) ≡ (test n && all test n)
+unfolding all
+all_more test n = refl
 
 pub some-none : (test : ℕ → Bool) → some test 0 ≡ false
 unfolding some

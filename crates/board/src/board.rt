@@ -11,7 +11,7 @@ pub use making::voting;
 pub use wire::is_group;
 
 // What a rule is shown. Station j is bit j − 1 of a set, and its place is j − 1.
-#[derive(Clone, Copy, Debug, PartialEq, Eq)]
+#[derive(Clone, Copy, Debug, Eq)]
 pub struct Board {
     // how many stations the group has
     pub n: u8,

@@ -41,6 +41,33 @@ sum_below_bound zero most term each = omega arith
 sum_below_bound (suc n) most term each =
     omega (arith, sum_below_bound n most term (λ k h. each k (omega arith)), each n (omega arith), suc-mul n most)
 
+-- One more place of a sum that stops at a limit: a place below the limit adds its term, any other adds nothing.
+
+pub sum_below-step :
+    (limit place sum : ℕ) (term : ℕ → ℕ)
+    → place < limit
+    → sum ≡ sum_below (min place limit) term
+    → sum + term place ≡ sum_below (min (place + 1) limit) term
+sum_below-step limit place sum term below so_far =
+    let here = ap (λ n. sum_below n term) (the_same place limit below) in
+    let next = ap (λ n. sum_below n term) (the_next place limit below) in
+    omega (arith, sum_below-more place term)
+  where
+    the_same : (a b : ℕ) → a < b → min a b ≡ a
+    the_same a b h = omega arith
+
+    the_next : (a b : ℕ) → a < b → min (a + 1) b ≡ a + 1
+    the_next a b h = omega arith
+
+pub sum_below-stays :
+    (limit place : ℕ) (term : ℕ → ℕ)
+    → limit ≤ place
+    → sum_below (min place limit) term ≡ sum_below (min (place + 1) limit) term
+sum_below-stays limit place term past = ap (λ n. sum_below n term) (the_limit place limit past)
+  where
+    the_limit : (a b : ℕ) → b ≤ a → min a b ≡ min (a + 1) b
+    the_limit a b h = omega arith
+
 -- a sum up to a limit, of terms that are 0 from a place on
 pub sum_below_ends :
     (limit m : ℕ) (term : ℕ → ℕ)

@@ -1,8 +1,10 @@
-// Questions to a board.
+// Questions to a board, and when two are the same.
 ghost use Rattle.std.specs.Prelude.{◌≡◌, Decides};
 ghost use Rattle.board.specs.Ballots.{votes_for};
 ghost use Rattle.board.specs.Boards.{ComparingDecides, absent, all_present, candidate, is_absent, is_present, is_same_board, lead, member, voters_at};
 ghost use Rattle.board.specs.Sets.{set_of};
+ghost use Rattle.std.specs.Cmp.Rules.{comparing};
+ghost use Rattle.std.proofs.Common.{rules};
 
 use crate::board::Board;
 use crate::sets::{first, holds, minus, size};
@@ -79,5 +81,27 @@ impl Board {
         ensures { result ≡ lead self.now one other }
     {
         size(minus(self.voters_of(one), self.voters_of(other)))
+    }
+}
+
+// A derive would compare the same three fields, but a caller of `==` would not be told the clauses below.
+impl PartialEq for Board {
+    ghost eq = { is_same_board };
+
+    ghost laws = { Prim.search (comparing, rules) };
+
+    // Two boards are equal just where they are the same board.
+    fn eq(&self, other: &Board) -> bool
+        ensures answer { result ≡ is_same_board self.now other.now }
+        ensures same { Decides result (self.now ≡ other.now) }
+        ensures comparing { ComparingDecides }
+    {
+        if self.n != other.n {
+            return false;
+        }
+        if self.present != other.present {
+            return false;
+        }
+        self.voters == other.voters
     }
 }
