@@ -1,5 +1,7 @@
 pub mod MessageFacts
+pub mod Same
 pub mod Counts
+pub mod Voted
 pub mod Pushed
 pub mod Keeping
 pub mod Timely

@@ -67,6 +67,9 @@ module _ (n : ℕ) (m : Message) where
   pub number_first : well_formed n m ≡ true → 1 ≤ m.number
   number_first well = grind (arith, nat_tests)
 
+  pub number_last : well_formed n m ≡ true → m.number ≤ 4096
+  number_last well = grind (arith, nat_tests)
+
   -- it follows all that its own station said before, and no more
   pub own_count : well_formed n m ≡ true → suc (count_of m m.station) ≡ m.number
   own_count well =

@@ -1,5 +1,5 @@
 -- What a release keeps: the wave of a settled board on the roll. Assumes nothing.
-use Rattle.std.proofs.Common.{◌≡◌, ℕ, zero, suc, ◌+◌, ◌<◌, ◌≤◌, Bool, true, cond, eqb, leb, ◌⊎◌, List, [], ◌∷◌, ◌++◌, length, is_some, Some, None, Ok, Option, sym, refl, ap, ◌∙◌, subst, ap₂, inl, inr, ⊎_elim, arith}
+use Rattle.std.proofs.Common.{◌≡◌, ◌↔◌, ℕ, zero, suc, ◌+◌, ◌<◌, ◌≤◌, Bool, true, cond, eqb, leb, ◌⊎◌, List, [], ◌∷◌, ◌++◌, length, is_some, Some, None, Ok, Option, sym, refl, ap, ◌∙◌, subst, ap₂, inl, inr, ⊎_elim, arith}
 use Rattle.std.proofs.lemmas.Grind.{common_steps}
 use Rattle.std.proofs.lemmas.List.{length-append, length-map, map-append}
 use Rattle.std.proofs.lemmas.Bool.{and_from, cases_Bool, cases_lt, eq-eqb, eqb-true, le-leb, true≢false}
@@ -25,7 +25,7 @@ use Rattle.model.specs.Heads as heads
 use Rattle.model.specs.Heads.{board_at, head, present_set, voter_sets}
 use Rattle.model.specs.Sound.{Begun, Gapless, Sound}
 use Rattle.model.specs.States.{State, known, last_wave, on_roll, released, releasing}
-use Rattle.model.specs.Waves.{Ascending, BeforeAll, IsWave, On, wave_of}
+use Rattle.model.specs.Waves.{Ascending, BeforeAll, HeadOfSource, IsWave, On, wave_of}
 use Rattle.model.proofs.Followed.{some-message}
 use Rattle.model.proofs.HeadLaws.{listed-message, released-fewer}
 use Rattle.model.proofs.MessageFacts.{group_small, station_first, station_last}
@@ -345,6 +345,16 @@ module _
       (λ place source. let below = source_member place source in omega arith)).0
 
   -- the wave has some head
+
+  pub wave_members :
+      (message : Message)
+      → On message (on_roll (wave_from state order sources))
+      ↔ HeadOfSource (head (known state) (released state)) sources message
+  wave_members message =
+      let same = on_entries (next_wave state) (wave_messages state order sources) in (
+        λ on. wave_is.only_heads message (subst (On message) same on),
+        λ source. subst (On message) (sym same) (wave_is.all_heads message source),
+      )
 
   pub wave_nonempty : 1 ≤ length (wave_from state order sources)
   wave_nonempty =

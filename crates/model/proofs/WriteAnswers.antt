@@ -1,13 +1,17 @@
 -- When each answer of write and of post comes. Assumes nothing.
-use Rattle.std.proofs.Common.{◌≡◌, ℕ, Bool, true, false, cond, eqb, List, length, Ok, Err, Decides, refl, arith}
+use Rattle.std.proofs.Common.{◌≡◌, ℕ, zero, suc, ◌<◌, Bool, true, false, cond, eqb, List, [], ◌∷◌, length, Some, None, Ok, Err, Decides, Option, Result, sym, refl, ap, ◌∙◌, ⊎_elim, arith}
+use Rattle.std.specs.List.{slice_get}
+use Rattle.std.proofs.lemmas.Option.{slice_get_past}
 use Rattle.std.proofs.lemmas.Grind.{common_steps}
-use Rattle.std.proofs.lemmas.Bool.{and_from, and_parts, both_ways, eq-eqb, eqb-true, false≢true, le-leb, leb-true}
+use Rattle.std.proofs.lemmas.Bool.{and_from, and_parts, both_ways, cases_lt, eq-eqb, eqb-true, false≢true, le-leb, leb-true}
+use Rattle.wire.specs.declared.fault.Fault.{Fault}
 use Rattle.wire.specs.declared.fault.Fault.TheVariants.{Full, Layout, Length, Setting}
 use Rattle.wire.specs.declared.message.Message.{Message}
 use Rattle.wire.proofs.Ranges.{within_at}
-use Rattle.model.specs.Calls.{may_write, next_message, outcome, write_of}
-use Rattle.model.specs.Meanings.{HasNoRoom, IsWritable, WriteAnswers}
-use Rattle.model.specs.States.{State, accepting, is_full, is_shut}
+use Rattle.model.specs.declared.entry.Entry.{Entry}
+use Rattle.model.specs.Calls.{may_write, next_message, outcome, post_of, to_post, write_of}
+use Rattle.model.specs.Meanings.{HasNoRoom, IsWritable, PostAnswers, WriteAnswers}
+use Rattle.model.specs.States.{State, accepting, entry_at, is_full, is_shut, posting}
 use Rattle.model.proofs.AnswerLaws.{comes, fails}
 use Rattle.model.proofs.Written.{within-from}
 
@@ -37,3 +41,55 @@ write-answers state class order note block =
     written_answers state class note block (next_message state class order) (is_shut state) (eqb (length block) 512) (may_write class note)
     (is_full state) refl (eqb-true (length block) 512, eq-eqb (length block) 512) (writable_decides class note)
     (leb-true state.settings.table (length state.accepted), le-leb state.settings.table (length state.accepted))
+
+-- Post.
+
+module _ {Held Reply : Type 0} (step : Held → List ℕ → Reply × Held) (state : State) (held : Held) where
+  there : (entries : List Entry) (i : ℕ) → i < length entries → slice_get entries i ≡ None → ⊥
+  there [] i inside nothing = omega arith
+  there (entry ∷ entries) zero inside nothing = let z : ◌≡◌ {A = ℕ} 0 1 = cc in omega arith
+  there (entry ∷ entries) (suc i) inside nothing = there entries i (omega arith) nothing
+
+  posted_answers :
+      (shut : Bool) → is_shut state ≡ shut → (found : Option Entry) → entry_at state.roll (suc state.posted) ≡ found
+      → PostAnswers step state held
+      (outcome state (cond shut (Err Setting) (to_post found)) (λ entry. (step held entry.message.order).0) (λ _. posting state)).answer
+  posted_answers true shut found is =
+      record {
+        setting = comes refl shut;
+        nothing_to_post = fails (omega arith) (λ p. both_ways (is_shut state) p.0 shut);
+        done = λ reply. fails (omega arith) (λ p. both_ways (is_shut state) p.1 shut);
+      }
+  posted_answers false live None none =
+      record {
+        setting = fails (omega arith) (λ shut. both_ways (is_shut state) live shut);
+        nothing_to_post =
+            comes refl (
+              live,
+              ⊎_elim (λ below. absurd (there state.roll state.posted below none)) (λ past. past)
+                  (cases_lt state.posted (length state.roll)),
+            );
+        done = λ reply. fails (omega arith) (λ p. let found = p.2 in let z : ◌≡◌ {A = ℕ} 0 1 = cc in omega arith);
+      }
+  posted_answers false live (Some entry) found =
+      record {
+        setting = fails (omega arith) (λ shut. both_ways (is_shut state) live shut);
+        nothing_to_post =
+            fails (omega arith)
+            (λ p. let none = slice_get_past state.roll state.posted p.1 in let z : ◌≡◌ {A = ℕ} 0 1 = cc in omega arith);
+        done = λ reply. (
+          (λ same. (entry, live, found, (cc))),
+          (λ p. replied reply p.0 p.2 p.3),
+        );
+      }
+    where
+      replied :
+          (reply : Reply) (other : Entry) → entry_at state.roll (suc state.posted) ≡ Some other
+          → reply ≡ (step held other.message.order).0
+          → ◌≡◌ {A = Result Reply Fault} (Ok (step held entry.message.order).0) (Ok reply)
+      replied reply other also is =
+          let one : other ≡ entry = cc in
+          ap Ok (sym (is ∙ ap (λ e. (step held e.message.order).0) one))
+
+  pub post_answers : PostAnswers step state held (post_of step state held).answer
+  post_answers = posted_answers (is_shut state) refl (entry_at state.roll (suc state.posted)) refl

@@ -1,5 +1,5 @@
 -- Heads and counts that are kept in arrays, one place for each of sixteen stations. Assumes nothing.
-use Rattle.std.specs.Prelude.{ℕ, zero, suc, ◌+◌, min, Bool, cond, ◌&&◌, List, map, length, position, unwrap_or, is_some, None, Option, slice_index, slice_index_or}
+use Rattle.std.specs.Prelude.{◌≡◌, ℕ, zero, suc, ◌+◌, ◌≤◌, min, Bool, cond, ◌&&◌, List, map, length, take, position, unwrap_or, is_some, None, Option, slice_index, slice_index_or}
 use Rattle.std.specs.List.{range_with_len}
 use Rattle.board.specs.Sets.{has, set_of}
 use Rattle.ties.specs.Ties.{TieMeaning}
@@ -44,6 +44,15 @@ raised_counts counts sources = map (λ place. one_more_if (has sources place) (s
 abbrev pub place_for : TieMeaning → ℕ → Message → List Message → ℕ
 place_for order wave message messages = unwrap_or (position (goes_before order wave message) messages) (length messages)
 
+-- the head at a place, if its station is a source
+abbrev pub source_head : List (Option Message) → ℕ → ℕ → Option Message
+source_head heads sources place = cond (has sources place) (slice_index_or heads place None) None
+
 -- the messages of a wave
 abbrev pub wave_messages : Wave → List Message
-wave_messages wave = wave.messages.items
+wave_messages wave = take wave.count wave.messages
+
+-- a wave has at most one message of each of sixteen stations, in an array of sixteen places
+pub record Sized (wave : Wave) : Type 0 where
+  pub few : wave.count ≤ 16
+  pub places : length wave.messages ≡ 16

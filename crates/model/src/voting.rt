@@ -1,7 +1,7 @@
 // Who is present, and who votes for whom, by the heads and the released counts.
-ghost use Rattle.std.specs.Prelude.{◌≡◌, ◌<◌};
-ghost use Rattle.model.specs.Arrays.{counts_by_station, present_in, raised_counts, voter_sets_in, voters_in, votes_in};
-ghost use Rattle.model.specs.Heads.{is_ready};
+ghost use Rattle.std.specs.Prelude.{◌≡◌, ◌<◌, None, Some, slice_index_or};
+ghost use Rattle.model.specs.Arrays.{counts_by_station, present_in, raised_counts, voter_sets_in, voters_in};
+ghost use Rattle.model.specs.Heads.{backs, is_ready};
 
 use crate::messages::exceeds;
 use crate::waves::votes_for;
@@ -36,24 +36,28 @@ struct Vote<'a> {
 
 // A place is a number below 16: from_fn gives numbers, so a type of places would be made anew at each call.
 impl Vote<'_> {
-    // The stations that vote for the candidate at a place.
+    // The stations that vote for the candidate at a place: none where there is no candidate. Whether there is
+    // one is asked once, and not for each voter.
     fn voters(&self, place: usize) -> u16
         requires { place < 16 }
         ensures { result ≡ voters_in self.now.heads.now self.now.released.now place }
     {
-        set_of(&array::from_fn(|voter| self.does_vote(voter, place)))
+        match &self.heads[place] {
+            Some(head) if self.is_ready(head) => {
+                set_of(&array::from_fn(|voter| self.does_vote(voter, head)))
+            }
+            _ => 0,
+        }
     }
 
-    // Whether the station at the one place votes for the candidate at the other.
-    fn does_vote(&self, voter: usize, place: usize) -> bool
-        requires voter { voter < 16 }
-        requires place { place < 16 }
-        ensures { result ≡ votes_in self.now.heads.now self.now.released.now voter place }
+    // Whether the station at a place votes for a candidate.
+    fn does_vote(&self, voter: usize, candidate: &Message) -> bool
+        requires { voter < 16 }
+        ensures { result ≡ backs (slice_index_or self.now.heads.now voter None) (Some candidate.now) }
     {
-        let Some(candidate) = &self.heads[place] else {
-            return false;
-        };
-        self.is_ready(candidate) && self.heads[voter].is_some_and(|own| votes_for(&own, candidate))
+        self.heads[voter]
+            .as_ref()
+            .is_some_and(|own| votes_for(own, candidate))
     }
 
     // Whether all that a message follows is released.

@@ -81,8 +81,13 @@ module _ (station : Station) (wave : Wave) (may : MayRelease (state_of_station s
 
   -- how long it is, and that there is room
 
-  pub wave_long : length (entries_of station wave) ≡ length (wave_messages wave)
-  wave_long = length-map (wave_messages wave) (λ message. record { wave = next_wave state; message = message })
+  pub entries_as_long : length (entries_of station wave) ≡ length (wave_messages wave)
+  entries_as_long = length-map (wave_messages wave) (λ message. record { wave = next_wave state; message = message })
+
+  pub wave_long : (number : ℕ) → wave.count ≤ 16 → length wave.messages ≡ 16 → length (as_entries number (wave_messages wave)) ≡ wave.count
+  wave_long number few sixteen =
+      length-map (wave_messages wave) (λ message. record { wave = number; message = message })
+      ∙ length-take-le wave.count wave.messages (omega arith)
 
   one_length : length station.table.places.now ≡ length station.roll.places.now
   one_length = let lawful = not-false (may_open state.settings) may.live in grind (arith, nat_tests)
@@ -94,7 +99,7 @@ module _ (station : Station) (wave : Wave) (may : MayRelease (state_of_station s
       let enough = roll_room (releasing state (entries_of station wave)) sound in
       let parts = length-append state.roll (entries_of station wave) in
       let before = entries-long station.roll.places.now station.roll.used station.roll.fits in
-      let more = wave_long in
+      let more = entries_as_long in
       let used = used-told station in
       let fits = station.table.fits in
       let same = one_length in
@@ -111,7 +116,7 @@ module _ (station : Station) (wave : Wave) (may : MayRelease (state_of_station s
     (written : roll.places.now ≡ overwritten station.roll.places.now station.roll.used (map holding (entries_of station wave)))
     (used : roll.used ≡ station.roll.used + length (wave_messages wave)) where
   long : length (map holding (entries_of station wave)) ≡ length (wave_messages wave)
-  long = length-map (entries_of station wave) holding ∙ wave_long station wave may
+  long = length-map (entries_of station wave) holding ∙ entries_as_long station wave may
 
   pub roll_next : contents_in roll.used roll.places.now ≡ (state_of_station station).roll ++ entries_of station wave
   roll_next =

@@ -84,21 +84,24 @@ module _ (station : Station) (message : Message) where
 
 -- The table with the message in its next place.
 
-module _ (station : Station) (message : Message) (may : MayAccept (state_of_station station) message) (table : Lent Message)
+module _ (station : Station) (message : Message) (table : Lent Message)
     (places : table.places.now ≡ set station.table.places.now station.table.used (holding message))
     (used : table.used ≡ station.table.used + 1) where
-  messages_more : contents_in table.used table.places.now ≡ (state_of_station station).accepted ++ message ∷ []
-  messages_more =
+  messages_more :
+      station.table.used < length station.table.places.now
+      → contents_in table.used table.places.now ≡ (state_of_station station).accepted ++ message ∷ []
+  messages_more room =
       ap₂ contents_in used places
       ∙ ap (map (λ place. place.content))
-      (take_more_set station.table.places.now station.table.used (holding message) (room_left station message may))
+      (take_more_set station.table.places.now station.table.used (holding message) room)
       ∙ map_push (λ place. place.content) (take station.table.used station.table.places.now) (holding message)
 
   -- the station stands for the state with the message accepted
   pub state_more :
-      state_of station.n station.own table.places.now table.used station.roll.places.now station.roll.used station.posted
+      station.table.used < length station.table.places.now
+      → state_of station.n station.own table.places.now table.used station.roll.places.now station.roll.used station.posted
       ≡ accepting (state_of_station station) message
-  state_more = λ i.
+  state_more room = λ i.
       record {
         settings =
             record {
@@ -107,11 +110,14 @@ module _ (station : Station) (message : Message) (may : MayAccept (state_of_stat
               table = (ap length places ∙ length-set station.table.places.now station.table.used (holding message)) i;
               roll = length station.roll.places.now;
             };
-        accepted = messages_more i;
+        accepted = messages_more room i;
         roll = (state_of_station station).roll;
         posted = station.posted;
       }
 
+module _ (station : Station) (message : Message) (may : MayAccept (state_of_station station) message) (table : Lent Message)
+    (places : table.places.now ≡ set station.table.places.now station.table.used (holding message))
+    (used : table.used ≡ station.table.used + 1) where
   pub accepted_more :
       set station.accepted (message.station - 1) (get_or station.accepted (message.station - 1) 0 + 1)
       ≡ tallies (contents_in table.used table.places.now)
@@ -120,14 +126,14 @@ module _ (station : Station) (message : Message) (may : MayAccept (state_of_stat
       let last = station_last station.n message may.group in
       tallies-more station.accepted (state_of_station station).accepted message station.accepted_told
       (station_first station.n message may.group) (omega arith)
-      ∙ sym (ap tallies messages_more)
+      ∙ sym (ap tallies (messages_more station message table places used (room_left station message may)))
 
   pub sound_more :
       ∥ Sound (state_of station.n station.own table.places.now table.used station.roll.places.now station.roll.used station.posted) ∥₁
   sound_more =
       ∥∥₁_map station.sound
       (λ sound.
-      subst Sound (sym state_more)
+      subst Sound (sym (state_more station message table places used (room_left station message may)))
       (sound-accepting (state_of_station station) message sound may.group may.fresh may.timely may.straight))
 
 -- what is taken in is the message itself

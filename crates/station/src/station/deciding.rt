@@ -1,7 +1,8 @@
 // Deciding the next wave, which alters nothing.
-ghost use Rattle.std.specs.Prelude.{◌≡◌, ◌<◌, suc, IfOk, Ok};
+ghost use Rattle.std.specs.Prelude.{◌≡◌, IfOk, Ok};
+ghost use Rattle.model.specs.Arrays.{Sized};
 ghost use Rattle.model.specs.Calls.{next_wave, release_decided};
-ghost use Rattle.model.specs.Heads.{board_at, head};
+ghost use Rattle.model.specs.Heads.{board_at};
 ghost use Rattle.model.specs.Sound.{MayRelease};
 ghost use Rattle.model.specs.States.{known, released};
 ghost use Rattle.station.specs.Standing.{AreHeads, entries_of, state_of_station, wave_told};
@@ -12,7 +13,6 @@ use board::sets::STATIONS;
 use board::{Board, Rule};
 use model::voting::{present, voter_sets};
 use model::{Wave, wave_of};
-use std::array;
 use ties::TieOrder;
 use wire::{Fault, Message};
 
@@ -21,6 +21,7 @@ impl Station<'_> {
     // another n, then if the rule is open on the station's board.
     pub(super) fn decide<R: Rule, T: TieOrder>(&self, rule: &R, order: &T) -> Result<Wave, Fault>
         ensures wave { wave_told (next_wave (state_of_station self.now)) result ≡ release_decided (state_of_station self.now) (R.Rule.means rule.now) (T.TieOrder.means order.now) }
+        ensures sized { IfOk result Sized }
         ensures may { IfOk result (λ wave. MayRelease (state_of_station self.now) wave.sources (entries_of self.now wave)) }
     {
         let open = self.open()?;
@@ -34,21 +35,17 @@ impl Station<'_> {
 }
 
 impl Open<'_, '_> {
-    // The head of each station.
+    // The head of each station: its first accepted message that is not released. Each is put in where it
+    // stands, so that it is copied once.
     fn heads(&self) -> [Option<Message>; STATIONS]
         ensures { AreHeads self.now.station.now result }
     {
-        array::from_fn(|place| self.head(place))
-    }
-
-    // The head of the station at a place: its first accepted message that is not released. A place is a
-    // number below 16: from_fn gives numbers, so a type of places would be made anew at each call.
-    fn head(&self, place: usize) -> Option<Message>
-        requires { place < 16 }
-        ensures { result ≡ head (known (state_of_station self.now.station.now)) (released (state_of_station self.now.station.now)) (suc place) }
-    {
         let station = self.station;
-        station.find(place as u8 + 1, station.released[place] + 1)
+        let mut heads = [None; STATIONS];
+        for (place, head) in heads.iter_mut().enumerate() {
+            *head = station.find(place as u8 + 1, station.released[place] + 1);
+        }
+        heads
     }
 
     // The board that the heads give.

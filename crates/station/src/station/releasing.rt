@@ -1,5 +1,6 @@
 // Putting a wave on the roll.
 ghost use Rattle.std.specs.Prelude.{◌≡◌, ◌+◌, ◌≤◌, map, length};
+ghost use Rattle.model.specs.Arrays.{Sized};
 ghost use Rattle.model.specs.Calls.{as_entries, release_decided, release_of};
 ghost use Rattle.model.specs.Meanings.{ReleaseAnswers};
 ghost use Rattle.model.specs.Sound.{MayRelease};
@@ -27,21 +28,21 @@ impl Station<'_> {
         ensures lent { SameMemory self.old self.new }
     {
         let wave = self.decide(rule, order)?;
-        let count = wave.messages.len();
         self.append(&wave);
-        Ok(count)
+        Ok(wave.count)
     }
 
     // Puts a decided wave on the roll.
     fn append(&mut self, wave: &Wave)
-        requires { MayRelease (state_of_station self.old) wave.now.sources (entries_of self.old wave.now) }
+        requires sized { Sized wave.now }
+        requires may { MayRelease (state_of_station self.old) wave.now.sources (entries_of self.old wave.now) }
         ensures next { state_of_station self.new ≡ releasing (state_of_station self.old) (entries_of self.old wave.now) }
         ensures table { self.new.table.places.now ≡ self.old.table.places.now }
         ensures roll { self.new.roll.places.now ≡ overwritten self.old.roll.places.now (length (state_of_station self.old).roll) (map holding (entries_of self.old wave.now)) }
         ensures lent { SameMemory self.old self.new }
     {
         let number = self.waves + 1;
-        put_entries(&mut self.roll, number, &wave.messages);
+        put_entries(&mut self.roll, number, &wave.messages[..wave.count]);
         self.waves = number;
         self.released = with_one_more(&self.released, wave.sources);
     }

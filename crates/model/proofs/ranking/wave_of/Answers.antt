@@ -1,54 +1,54 @@
-use Rattle.std.proofs.Common.{◌≡◌, length, get_or, true, false, Some, None, ap, ◌∙◌, arith, rules}
+use Rattle.std.proofs.Common.{◌≡◌, cond, length, get_or, take, true, false, Some, None, sym, refl, ap, ◌∙◌, ap₂, arith, rules}
 use Rattle.board.specs.Sets.{has}
-use Rattle.model.specs.Arrays.{heads_by_station, place_for}
+use Rattle.model.specs.Arrays.{heads_by_station}
+use Rattle.model.specs.Waves.{put_in}
 use Rattle.model.proofs.Ranked.{heads_all, heads_more, heads_none, no_head, no_source}
 use Rattle.model.proofs.ranking.wave_of.Goals as goal
-use Rattle.model.proofs.ranking.wave_of.Goals.{in-Some+then-holds, in_default, in_default-via-in-None-1, in_default-via-in-Some+else-holds}
+use Rattle.model.proofs.ranking.wave_of.Goals.{then-holds+in-Some, else-holds, else-holds-via-then-holds+in-None-1, else-holds-via-else-holds}
 
 pub loop-place-init : goal.loop-place-init
 loop-place-init g c =
-    let none = ap length c.new-messages.ensures in (
-      c.new-messages.ensures
-          ∙ heads_none (g.T.TieOrder.means c.args.order.now) c.args.wave (heads_by_station c.args.heads.now) c.args.sources,
-      search rules,
-    )
+    (heads_none (g.T.TieOrder.means c.args.order.now) c.args.wave (heads_by_station c.args.heads.now) c.args.sources, omega arith, refl)
 
 pub loop-place-preserved : goal.loop-place-preserved
 loop-place-preserved g c =
-    elim c.match-head.branch [
-      | in-Some+then-holds w ↦
-          let same = ap (λ m. m.items) w.messages-is in
-          let more = ap length same in
+    elim c.if-holds.branch [
+      | then-holds+in-Some w ↦
           let source : has c.args.sources c.loop-place.place ≡ true = cc in
           let head : get_or c.args.heads.now c.loop-place.place None ≡ Some w.in-Some.head = search rules in (
-            heads_more (g.T.TieOrder.means c.args.order.now) c.args.wave c.args.heads.now c.args.sources c.loop-place.place
-                w.in-Some.head c.loop-place.messages.items c.match-head.messages.items w.find_place.result source head
-                c.loop-place.invariant.0
-                (w.find_place.ensures.place
-                ∙ ap (place_for (g.T.TieOrder.means c.args.order.now) c.args.wave w.in-Some.head) w.deref.ensures.0)
-                (same ∙ w.insert.ensures.items),
-            omega arith,
+            ap₂ take w.count-is w.messages-is ∙ w.put_at_its_place.ensures.put
+                ∙ ap (put_in (g.T.TieOrder.means c.args.order.now) c.args.wave w.in-Some.head) c.loop-place.invariant.0
+                ∙ heads_more (g.T.TieOrder.means c.args.order.now) c.args.wave c.args.heads.now c.args.sources c.loop-place.place
+                w.in-Some.head (sym (ap₂ (λ b h. cond b h None) source head)),
+            omega (arith, w.count-is, c.loop-place.invariant.1),
+            ap length w.messages-is ∙ w.put_at_its_place.ensures.places,
           )
-      | in_default w ↦
-          let same = ap (λ m. m.items) w.messages-is in
-          let few = ap length same in
-          elim w.in_default.branch [
-            | in_default-via-in-None-1 w' ↦
+      | else-holds w ↦
+          let same = ap₂ take w.count-is w.messages-is in
+          elim w.else-holds.branch [
+            | else-holds-via-then-holds+in-None-1 w' ↦
                 let none : get_or c.args.heads.now c.loop-place.place None ≡ None = search rules in (
                   no_head (g.T.TieOrder.means c.args.order.now) c.args.wave c.args.heads.now c.args.sources c.loop-place.place
-                      c.loop-place.messages.items c.match-head.messages.items none c.loop-place.invariant.0 same,
-                  omega arith,
+                      (take c.loop-place.count c.loop-place.messages) _ none c.loop-place.invariant.0 same,
+                  omega (arith, w.count-is, c.loop-place.invariant.1),
+                  ap length w.messages-is ∙ c.loop-place.invariant.2,
                 )
-            | in_default-via-in-Some+else-holds w' ↦
+            | else-holds-via-else-holds w' ↦
                 let other : has c.args.sources c.loop-place.place ≡ false = cc in (
                   no_source (g.T.TieOrder.means c.args.order.now) c.args.wave c.args.heads.now c.args.sources c.loop-place.place
-                      c.loop-place.messages.items c.match-head.messages.items other c.loop-place.invariant.0 same,
-                  omega arith,
+                      (take c.loop-place.count c.loop-place.messages) _ other c.loop-place.invariant.0 same,
+                  omega (arith, w.count-is, c.loop-place.invariant.1),
+                  ap length w.messages-is ∙ c.loop-place.invariant.2,
                 )
           ]
     ]
 
-pub returns-clause-messages : goal.returns-clause-messages
-returns-clause-messages g c =
-    heads_all (g.T.TieOrder.means c.args.order.now) c.args.wave c.args.heads.now c.args.sources c.loop-place.place
-    c.loop-place.messages.items c.loop-place.invariant.0 (omega arith)
+pub returns : goal.returns
+returns g c =
+    record {
+      messages =
+          heads_all (g.T.TieOrder.means c.args.order.now) c.args.wave c.args.heads.now c.args.sources c.loop-place.place
+          (take c.loop-place.count c.loop-place.messages) c.loop-place.invariant.0 (omega arith);
+      sources = refl;
+      sized = record { few = omega (arith, c.loop-place.invariant.1); places = c.loop-place.invariant.2 };
+    }

@@ -1,5 +1,6 @@
-use Rattle.std.proofs.Common.{◌+◌, suc, length, map, sym, ap, ◌∙◌, ap₂, subst, add-one, arith}
+use Rattle.std.proofs.Common.{◌+◌, suc, length, map, sym, ap, ◌∙◌, subst, add-one, arith}
 use Rattle.model.specs.Accepted.{tallies}
+use Rattle.model.specs.Arrays.{wave_messages}
 use Rattle.model.specs.Calls.{as_entries}
 use Rattle.model.specs.Sound.{Sound}
 use Rattle.model.specs.States.{last_wave, on_roll}
@@ -8,10 +9,7 @@ use Rattle.station.proofs.Appended.{counts_next, roll_next, sound_next, state_ne
 use Rattle.station.proofs.station.Station.append.Goals as goal
 
 pub put_entries-requires : goal.put_entries-requires
-put_entries-requires c =
-    let room = wave_room c.args.self.now c.args.wave.now c.requires in
-    let same = ap length c.deref.ensures.0 in
-    omega arith
+put_entries-requires c = wave_room c.args.self.now c.args.wave.now c.requires.may
 
 pub invariant_of-self : goal.invariant_of-self
 invariant_of-self c =
@@ -19,20 +17,20 @@ invariant_of-self c =
     let wave = c.args.wave.now in
     let written =
     c.put_entries.ensures.places
-    ∙ ap₂ (λ k messages. overwritten station.roll.places.now station.roll.used (map holding (as_entries k messages)))
-    (add-one station.waves ∙ ap suc station.waves_told) c.deref.ensures.0 in
-    let used = c.put_entries.ensures.used ∙ ap (λ messages. station.roll.used + length messages) c.deref.ensures.0 in
-    let roll = roll_next station wave c.requires c.put_entries.new.roll written used in
+    ∙ ap (λ k. overwritten station.roll.places.now station.roll.used (map holding (as_entries k (wave_messages wave))))
+    (add-one station.waves ∙ ap suc station.waves_told) in
+    let used = c.put_entries.ensures.used in
+    let roll = roll_next station wave c.requires.may c.put_entries.new.roll written used in
     let posts = station.posts_fit in
     record {
       posts_fit = omega arith;
-      waves_told = waves_next station wave c.requires ∙ ap last_wave (sym roll);
+      waves_told = waves_next station wave c.requires.may ∙ ap last_wave (sym roll);
       accepted_told = station.accepted_told;
       released_told =
-          c.with_one_more-self.ensures ∙ counts_next station wave c.requires ∙ sym (ap (λ entries. tallies (on_roll entries)) roll);
+          c.with_one_more-self.ensures ∙ counts_next station wave c.requires.may ∙ sym (ap (λ entries. tallies (on_roll entries)) roll);
       sound =
-          subst (λ state. ∥ Sound state ∥₁) (sym (state_next station wave c.requires c.put_entries.new.roll written used))
-          (sound_next station wave c.requires);
+          subst (λ state. ∥ Sound state ∥₁) (sym (state_next station wave c.requires.may c.put_entries.new.roll written used))
+          (sound_next station wave c.requires.may);
     }
 
 pub returns-clause-next : goal.returns-clause-next
@@ -41,7 +39,6 @@ returns-clause-next c =
     let wave = c.args.wave.now in
     let written =
     c.put_entries.ensures.places
-    ∙ ap₂ (λ k messages. overwritten station.roll.places.now station.roll.used (map holding (as_entries k messages)))
-    (add-one station.waves ∙ ap suc station.waves_told) c.deref.ensures.0 in
-    let used = c.put_entries.ensures.used ∙ ap (λ messages. station.roll.used + length messages) c.deref.ensures.0 in
-    state_next station wave c.requires c.put_entries.new.roll written used
+    ∙ ap (λ k. overwritten station.roll.places.now station.roll.used (map holding (as_entries k (wave_messages wave))))
+    (add-one station.waves ∙ ap suc station.waves_told) in
+    state_next station wave c.requires.may c.put_entries.new.roll written c.put_entries.ensures.used

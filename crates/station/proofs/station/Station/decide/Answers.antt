@@ -55,6 +55,7 @@ returns g c =
           ap Ok entries
           ∙ sym (decided-by state rule order c.board.result live (sym c.stations.ensures ∙ c.if-stations-self.false) order_n board_is
           ∙ ap (settled_wave state order) settled);
+      sized = c.wave_of.ensures.sized;
       may =
           record {
             live = live;

@@ -1,6 +1,6 @@
 use Rattle.std.proofs.Common.{Ok, Err, length, sym, ap, ◌∙◌}
 use Rattle.std.proofs.lemmas.Result.{err_from_is_err_and}
-use Rattle.model.specs.Calls.{outcome, release_of}
+use Rattle.model.specs.Calls.{next_wave, outcome, release_of}
 use Rattle.model.specs.States.{releasing}
 use Rattle.station.specs.Standing.{state_of_station}
 use Rattle.station.proofs.Appended.{wave_long}
@@ -29,17 +29,21 @@ returns-in_err-wave-clause-answers g c =
 pub returns-clause-outcome : goal.returns-clause-outcome
 returns-clause-outcome g c =
     let state = state_of_station c.args.self.now in
-    let long = wave_long c.args.self.now c.in_ok-wave.wave c.in_ok-wave.ensures.may in
+    let long =
+    wave_long c.args.self.now c.in_ok-wave.wave c.in_ok-wave.ensures.may (next_wave state) c.in_ok-wave.ensures.sized.few
+    c.in_ok-wave.ensures.sized.places in
     does c.args.self.now c.append.new.self
-    (λ state. release_of state (g.R.Rule.means c.args.rule.now) (g.T.TieOrder.means c.args.order.now)) (Ok c.len-count.result)
-    (ap Ok (c.len-count.ensures.value ∙ sym long)
+    (λ state. release_of state (g.R.Rule.means c.args.rule.now) (g.T.TieOrder.means c.args.order.now)) (Ok c.in_ok-wave.wave.count)
+    (ap Ok (sym long)
     ∙ ap (λ decided. (outcome state decided length (releasing state)).answer) c.in_ok-wave.ensures.wave)
     (c.append.ensures.next ∙ ap (λ decided. (outcome state decided length (releasing state)).next) c.in_ok-wave.ensures.wave)
 
 pub returns-clause-answers : goal.returns-clause-answers
 returns-clause-answers g c =
     let state = state_of_station c.args.self.now in
-    let long = wave_long c.args.self.now c.in_ok-wave.wave c.in_ok-wave.ensures.may in
-    release_answered c.args.self.now (g.R.Rule.means c.args.rule.now) (g.T.TieOrder.means c.args.order.now) (Ok c.len-count.result)
-    (ap Ok (c.len-count.ensures.value ∙ sym long)
+    let long =
+    wave_long c.args.self.now c.in_ok-wave.wave c.in_ok-wave.ensures.may (next_wave state) c.in_ok-wave.ensures.sized.few
+    c.in_ok-wave.ensures.sized.places in
+    release_answered c.args.self.now (g.R.Rule.means c.args.rule.now) (g.T.TieOrder.means c.args.order.now) (Ok c.in_ok-wave.wave.count)
+    (ap Ok (sym long)
     ∙ ap (λ decided. (outcome state decided length (releasing state)).answer) c.in_ok-wave.ensures.wave)
