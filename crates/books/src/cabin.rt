@@ -1,5 +1,5 @@
 // The cabin book: the slots of fourteen days, and the cabins of a lift.
-ghost use Rattle.std.specs.Prelude.{◌≡◌, ℕ, true, List, Some, Ok, Err, IfOk, IfErr, slice_index};
+ghost use Rattle.std.specs.Prelude.{◌≡◌, ◌≤◌, ℕ, true, List, Some, Ok, Err, IfOk, IfErr, nat_le, slice_index};
 ghost use Rattle.wire.specs.Words.{two_bytes};
 ghost use Rattle.books.specs.declared.cabin.CabinBook.{CabinBook};
 ghost use Rattle.books.specs.declared.cabin.CabinReply.TheVariants.{Done};
@@ -184,8 +184,16 @@ impl CabinBook {
     pub fn new() -> CabinBook
         ensures { result ≡ at_start }
     {
+        // The seats are put in where the cabins stand, so that no second array is made.
+        let mut cabins = [Cabin {
+            seats: 0,
+            home: true,
+        }; CABINS];
+        for (place, cabin) in cabins.iter_mut().enumerate() {
+            cabin.seats = SEATS[place];
+        }
         CabinBook {
-            cabins: SEATS.map(|seats| Cabin { seats, home: true }),
+            cabins,
             slots: [[Slot::Free; DEPARTURES]; DAYS],
         }
     }
@@ -224,7 +232,7 @@ impl CabinBook {
         let party = order.party();
         match order.code {
             CabinCode::Book => {
-                cabin == 0 && party >= 1 && seats >= 1 && seats <= most_of(&self.cabins)
+                cabin == 0 && party >= 1 && seats >= 1 && is_in_one(&self.cabins, seats)
             }
             CabinCode::Cancel => cabin == 0 && party >= 1 && seats == 0,
             CabinCode::Assign | CabinCode::Ride => {
@@ -291,9 +299,11 @@ fn is_slot(day: u8, departure: u8) -> bool
     (1..=DAYS).contains(&usize::from(day)) && (1..=DEPARTURES).contains(&usize::from(departure))
 }
 
-// The most seats that any cabin has.
-fn most_of(cabins: &[Cabin]) -> u8
-    ensures { result ≡ most cabins.now }
+// Whether some cabin has as many seats, so that the most that any has is enough. They are asked one after
+// another from the last, since the largest stand there.
+fn is_in_one(cabins: &[Cabin], seats: u8) -> bool
+    requires { 1 ≤ seats }
+    ensures { result ≡ nat_le seats (most cabins.now) }
 {
-    cabins.iter().map(|cabin| cabin.seats).max().unwrap_or(0)
+    cabins.iter().rev().any(|cabin| seats <= cabin.seats)
 }
