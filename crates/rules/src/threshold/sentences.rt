@@ -5,8 +5,7 @@ ghost use Rattle.board.specs.Sets.{any, every, implies, set_of};
 ghost use Rattle.rules.specs.Thresholds.{asks_below, cannot_pass, few_absent, out_of_it, passes, settles, source};
 
 use board::Board;
-use board::sets::{STATIONS, set_of};
-use std::array;
+use board::sets::{STATIONS, alone, join};
 
 // A board as a threshold of Φ sees it.
 #[derive(Clone, Copy)]
@@ -30,11 +29,18 @@ impl View<'_> {
         self.are_few_absent() && self.does_some_pass() && self.are_others_out()
     }
 
-    // The sources where the rule below does not answer.
+    // The sources where the rule below does not answer. They are collected in a loop, since with a set of
+    // sixteen answers the whole rule takes nearly twice the time.
     pub fn sources(&self) -> u16
         ensures { result ≡ set_of (source self.now.phi self.now.board.now) }
     {
-        set_of(&array::from_fn(|place| self.is_source(place)))
+        let mut set = 0;
+        for place in 0..STATIONS {
+            if self.is_source(place) {
+                set = join(alone(place), set);
+            }
+        }
+        set
     }
 
     // Whether at most Φ stations are absent.
@@ -79,7 +85,9 @@ impl View<'_> {
         self.board.voter_count(place) + self.board.absent_count() <= u32::from(self.phi)
     }
 
-    // Whether some candidate's lead over a place, with so many votes more, exceeds Φ.
+    // Whether some candidate's lead over a place, with so many votes more, exceeds Φ. It is inlined, since
+    // it is asked for each of sixteen places.
+    #[inline(always)]
     fn is_led_with(&self, place: usize, more: u32) -> bool
         requires { more ≤ 16 }
         ensures { result ≡ any (λ other. candidate self.now.board.now other && nat_lt self.now.phi (lead self.now.board.now other place + more)) }
@@ -110,7 +118,8 @@ impl View<'_> {
         !self.board.has_candidate(place) || self.does_fall_short(place)
     }
 
-    // Whether a place has a candidate that is a source.
+    // Whether a place has a candidate that is a source. It is inlined for the same reason.
+    #[inline(always)]
     fn is_source(&self, place: usize) -> bool
         ensures { result ≡ source self.now.phi self.now.board.now place }
     {
