@@ -2,7 +2,8 @@
 use Rattle.std.specs.Prelude.{ℕ, ◌+◌, ◌-◌, ◌%◌, cond, ◌&&◌, ◌||◌, Ok, Err, Result, ◌==◌, nat_le, nat_lt}
 use Rattle.wire.specs.declared.fault.Fault.{Fault}
 use Rattle.ties.specs.declared.orders.OrderBy.{OrderBy}
-use Rattle.ties.specs.Ties.{TieMeaning, asked}
+use Rattle.ties.specs.Ties.{TieMeaning}
+pub use Rattle.ties.specs.Ties.{asked}
 
 -- the lower station
 abbrev pub station_order : ℕ → TieMeaning
