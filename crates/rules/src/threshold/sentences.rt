@@ -29,8 +29,8 @@ impl View<'_> {
         self.are_few_absent() && self.does_some_pass() && self.are_others_out()
     }
 
-    // The sources where the rule below does not answer. They are collected in a loop, since with a set of
-    // sixteen answers the whole rule takes nearly twice the time.
+    // The sources where the rule below does not answer. They are collected in a loop: a set of sixteen
+    // answers takes somewhat longer.
     pub fn sources(&self) -> u16
         ensures { result ≡ set_of (source self.now.phi self.now.board.now) }
     {
