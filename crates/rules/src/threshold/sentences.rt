@@ -1,5 +1,5 @@
 // The sentences of a threshold, each as a question to a board.
-ghost use Rattle.std.specs.Prelude.{◌≡◌, ◌+◌, ◌≤◌, ◌&&◌, nat_lt};
+ghost use Rattle.std.specs.Prelude.{◌≡◌, ◌+◌, ◌≤◌, ◌&&◌, nat_eq, nat_lt};
 ghost use Rattle.board.specs.Boards.{absent, candidate, lead};
 ghost use Rattle.board.specs.Sets.{any, every, implies, set_of};
 ghost use Rattle.rules.specs.Thresholds.{asks_below, cannot_pass, few_absent, out_of_it, passes, settles, source};
@@ -29,18 +29,14 @@ impl View<'_> {
         self.are_few_absent() && self.does_some_pass() && self.are_others_out()
     }
 
-    // The sources where the rule below does not answer. They are collected in a loop: a set of sixteen
-    // answers takes somewhat longer.
+    // The sources where the rule below does not answer. Their sets are joined as they come, since sixteen
+    // answers that are kept until the last take longer.
     pub fn sources(&self) -> u16
         ensures { result ≡ set_of (source self.now.phi self.now.board.now) }
     {
-        let mut set = 0;
-        for place in 0..STATIONS {
-            if self.is_source(place) {
-                set = join(alone(place), set);
-            }
-        }
-        set
+        (0..STATIONS)
+            .map(|place| alone_if(self.is_source(place), place))
+            .fold(0, join)
     }
 
     // Whether at most Φ stations are absent.
@@ -135,4 +131,11 @@ impl View<'_> {
             || self.is_source(place)
             || (self.does_fall_short(place) && self.is_led_with(place, 0))
     }
+}
+
+// The set of the station at a place alone if it is chosen, and else of none.
+fn alone_if(is_chosen: bool, place: usize) -> u16
+    ensures { result ≡ set_of (λ other. nat_eq other place && is_chosen) }
+{
+    if is_chosen { alone(place) } else { 0 }
 }
